@@ -1,0 +1,4 @@
+-- Laws that belong to no one function, for every crate to cite.
+pub mod Arms
+pub mod Below
+pub mod Lookup

@@ -1,0 +1,24 @@
+-- What stands at a place of a list.
+-- Assumes nothing.
+use mathlib.Core.Path.{_≡_, refl}
+use mathlib.Core.List.{List, [], _∷_, _++_}
+use Prim.Native.Nat.{ℕ, zero, suc, _≤_}
+use native.Mathlib.Nat.{le-of-suc-le-suc, not-suc-le-zero}
+use lib.ListN.{length, getD}
+
+-- a function applied to each element
+abbrev pub mapped : {A B : Type 0} → (A → B) → List A → List B
+mapped f [] = []
+mapped f (x ∷ l) = f x ∷ mapped f l
+
+pub getD-mapped : {A B : Type 0} (f : A → B) (l : List A) (n : ℕ) (d : A) → f (getD l n d) ≡ getD (mapped f l) n (f d)
+getD-mapped f [] n d = refl
+getD-mapped f (x ∷ l) zero d = refl
+getD-mapped f (x ∷ l) (suc n) d = getD-mapped f l n d
+
+-- a list whose last element is also its default: that element stands at its place and past it
+pub getD-last : {A : Type 0} (l : List A) (n : ℕ) (d : A) → length l ≤ n → getD (l ++ (d ∷ [])) n d ≡ d
+getD-last [] zero d h = refl
+getD-last [] (suc n) d h = refl
+getD-last (x ∷ l) zero d h = absurd (not-suc-le-zero h)
+getD-last (x ∷ l) (suc n) d h = getD-last l n d (le-of-suc-le-suc h)
