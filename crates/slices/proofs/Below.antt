@@ -7,15 +7,12 @@ use native.Mathlib.Nat.{le-of-suc-le-suc, not-suc-le-zero}
 use lib.Arith.{lt-of-le-ne}
 use lib.Dec.{eqb}
 use borrow.Author.Tests.{eqb-true, eqb-false}
+use Rattle.slices.proofs.Bools.{both}
 
 -- the test passes at each of 0, 1, .., n - 1
 abbrev pub all-below : (ℕ → Bool) → ℕ → Bool
 all-below p zero = true
 all-below p (suc n) = p n && all-below p n
-
-pub both : (a b : Bool) → a && b ≡ true → (a ≡ true) × (b ≡ true)
-both true b h = (refl, h)
-both false b h = (cc, cc)
 
 -- k ≤ n: it is n, or below n
 last-or-below : (p : ℕ → Bool) (n k : ℕ) → k ≤ n → p n ≡ true → (k < n → p k ≡ true) → (t : Bool) → eqb k n ≡ t → p k ≡ true

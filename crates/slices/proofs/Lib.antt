@@ -1,4 +1,5 @@
 -- Laws that belong to no one function, for every crate to cite.
 pub mod Arms
 pub mod Below
+pub mod Bools
 pub mod Lookup

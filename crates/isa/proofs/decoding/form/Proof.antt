@@ -1,0 +1,80 @@
+-- At each number of the upper six bits the table is searched by computing.
+-- Assumes nothing.
+use mathlib.Core.Path.{_≡_}
+use native.Mathlib.Omega.{arith}
+use Rattle.slices.proofs.Arms.{past}
+use Rattle.isa.specs.Decode.{formOf}
+use borrow.Author.Needs.{needs}
+use Rattle.isa.proofs.decoding.form.Statement.{statement}
+use Rattle.isa.proofs.decoding.form.Tie as tie
+
+pub form-spec : {M : Type 1} → statement M
+unfolding formOf
+form-spec =
+    tie.close
+    (tie.spec
+    (λ c κs. search needs)
+    (λ c. rw (c .before .low-pair .ensures, c .match .keys1))
+    (λ c. rw (c .before .low-pair .ensures, c .match .keys2))
+    (λ c. rw (c .before .low-pair .ensures, c .match .keys3))
+    (λ c. rw (c .before .low-pair .ensures, c .match .keys4))
+    (λ c. rw (c .before .low-pair .ensures, c .match .keys5))
+    (λ c. rw (c .before .low-pair .ensures, c .match .keys6))
+    (λ c. rw (c .before .low-pair .ensures, c .match .keys7))
+    (λ c. rw (c .before .low-pair .ensures, c .match .keys8))
+    (λ c. rw (c .match .keys9))
+    (λ c. rw (c .match .keys10))
+    (λ c. rw (c .match .keys11))
+    (λ c. rw (c .match .keys12))
+    (λ c. rw (c .before .low-pair .ensures, c .match .keys13))
+    (λ c. rw (c .before .low-pair .ensures, c .match .keys14))
+    (λ c. rw (c .before .low-pair .ensures, c .match .keys15))
+    (λ c. rw (c .before .low-pair .ensures, c .match .keys16))
+    (λ c. rw (c .before .low-pair .ensures, c .match .keys17))
+    (λ c. rw (c .before .low-pair .ensures, c .match .keys18))
+    (λ c. rw (c .before .low-pair .ensures, c .match .keys19))
+    (λ c. rw (c .before .low-pair .ensures, c .match .keys20))
+    (λ c. rw (c .match .keys21))
+    (λ c. rw (c .match .keys22))
+    (λ c. rw (c .match .keys23))
+    (λ c. rw (c .match .keys24))
+    (λ c. rw (c .before .low-pair .ensures, c .match .keys25))
+    (λ c. rw (c .before .low-pair .ensures, c .match .keys26))
+    (λ c. rw (c .before .low-pair .ensures, c .match .keys27))
+    (λ c. rw (c .before .low-pair .ensures, c .match .keys28))
+    (λ c. rw (c .before .low-pair .ensures, c .match .keys29))
+    (λ c. rw (c .before .low-pair .ensures, c .match .keys30))
+    (λ c. rw (c .before .low-pair .ensures, c .match .keys31))
+    (λ c. rw (c .before .low-pair .ensures, c .match .keys32))
+    (λ c. rw (c .before .low-pair .ensures, c .match .keys33))
+    (λ c. rw (c .before .low-pair .ensures, c .match .keys34))
+    (λ c. rw (c .before .low-pair .ensures, c .match .keys35))
+    (λ c. rw (c .before .low-pair .ensures, c .match .keys36))
+    (λ c. rw (c .before .low-pair .ensures, c .match .keys37))
+    (λ c. rw (c .before .low-pair .ensures, c .match .keys38))
+    (λ c. rw (c .before .low-pair .ensures, c .match .keys39))
+    (λ c. rw (c .before .low-pair .ensures, c .match .keys40))
+    (λ c. rw (c .match .keys41))
+    (λ c. rw (c .match .keys42))
+    (λ c. rw (c .match .keys43))
+    (λ c. rw (c .match .keys44))
+    (λ c. rw (c .match .keys45))
+    (λ c. rw (c .match .keys46))
+    (λ c. rw (c .match .keys47))
+    (λ c. rw (c .match .keys48))
+    (λ c. rw (c .match .keys49))
+    (λ c. rw (c .match .keys50))
+    (λ c. rw (c .match .keys51))
+    (λ c. rw (c .match .keys52))
+    (λ c. rw (c .match .keys53))
+    (λ c. rw (c .match .keys54))
+    (λ c. rw (c .match .keys55))
+    (λ c. rw (c .match .keys56))
+    (λ c. rw (c .match .keys57))
+    (λ c. rw (c .match .keys58))
+    (λ c. rw (c .match .keys59))
+    (λ c. rw (c .match .keys60))
+    (λ c. rw (c .match .keys61))
+    (λ c. rw (c .match .keys62))
+    (λ c. rw (c .match .keys63))
+    (λ c. let e : c .before .before .args .g ≡ 63 = omega (arith, past _ 63 (c .match .rest), c .before .before .pre) in rw e))

@@ -1,0 +1,16 @@
+-- The row is joined.
+-- Assumes nothing.
+use mathlib.Core.Path.{ap, _∙_}
+use Rattle.isa.specs.Encode.{joinOf, encodeOf}
+use borrow.Author.Needs.{needs}
+use Rattle.isa.proofs.encoding.encode.Statement.{statement}
+use Rattle.isa.proofs.encoding.encode.Tie as tie
+
+pub encode-spec : {M : Type 1} → statement M
+unfolding encodeOf
+encode-spec =
+    tie.close
+    (tie.spec
+    (λ c κs. search needs)
+    (λ c κs. search needs)
+    (λ c. c .join .ensures ∙ ap joinOf (c .before .layout .ensures)))

@@ -1,0 +1,89 @@
+-- Encoding: the two bytes of an instruction, or the refusal 22 or 23 of 01.
+-- Assumes nothing.
+use Prim.Native.Nat.{ℕ, _+_, _*_, _%_}
+use mathlib.Core.Path.{_≡_}
+use mathlib.Core.Bool.{Bool, true, false, cond, _||_}
+use mathlib.Core.List.{List}
+use lib.Dec.{eqb, ltb}
+use lib.ListN.{length, set}
+use Rattle.isa.specs.Table.{rowOf, opcodeIn, argumentIn}
+use Rattle.isa.specs.declared.Argument.{Argument}
+use Rattle.isa.specs.declared.Argument.the-variants.{FFFFXXBB, IIIIIIII, XXXXXXBB, XXXXXXXX}
+use Rattle.isa.specs.declared.Encoded.{Encoded}
+use Rattle.isa.specs.declared.Encoded.the-variants.{Bytes, BadBank, BadRegister, BadFunction}
+use Rattle.isa.specs.declared.Instr.{Instr}
+use Rattle.isa.specs.declared.Opcode.{Opcode}
+use Rattle.isa.specs.declared.Opcode.the-variants.{DDAA, DDXX, OOAA, OOXX}
+use Rattle.isa.specs.declared.Row.{Row}
+
+-- 22: "a register number over 3"
+abbrev pub badInOpcode : Opcode → Bool
+badInOpcode (DDAA p d a) = ltb 3 d || ltb 3 a
+badInOpcode (DDXX p d) = ltb 3 d
+badInOpcode (OOAA p a) = ltb 3 a
+badInOpcode (OOXX p) = false
+
+abbrev pub badInArgument : Argument → Bool
+badInArgument (FFFFXXBB f b) = ltb 3 b
+badInArgument (IIIIIIII i) = false
+badInArgument (XXXXXXBB b) = ltb 3 b
+badInArgument XXXXXXXX = false
+
+-- 23: "a function number over 15"
+abbrev pub badFunction : Argument → Bool
+badFunction (FFFFXXBB f b) = ltb 15 f
+badFunction (IIIIIIII i) = false
+badFunction (XXXXXXBB b) = false
+badFunction XXXXXXXX = false
+
+-- the fixed bits and the letters at their places in eight bits. 01: free bits "are 0 when written"
+abbrev pub opcodeByte : Opcode → ℕ
+opcodeByte (DDAA p d a) = p * 16 % 256 + d * 4 + a
+opcodeByte (DDXX p d) = p * 16 % 256 + d * 4
+opcodeByte (OOAA p a) = p * 4 % 256 + a
+opcodeByte (OOXX p) = p * 4 % 256
+
+abbrev pub argumentByte : Argument → ℕ
+argumentByte (FFFFXXBB f b) = f * 16 + b
+argumentByte (IIIIIIII i) = i
+argumentByte (XXXXXXBB b) = b
+argumentByte XXXXXXXX = 0
+
+-- 01: "the lowest number that applies first"
+unfoldable pub joinOf : Row → Encoded
+joinOf r =
+    cond (badInOpcode (opcodeIn r) || badInArgument (argumentIn r)) BadRegister
+    (cond (badFunction (argumentIn r)) BadFunction (Bytes (opcodeByte (opcodeIn r)) (argumentByte (argumentIn r))))
+
+unfoldable pub encodeOf : Instr → Encoded
+encodeOf i = joinOf (rowOf i)
+
+-- 01's number for each case of the answer, 0 where nothing is refused
+abbrev pub numberOf : Encoded → ℕ
+numberOf (Bytes op arg) = 0
+numberOf BadBank = 1
+numberOf BadRegister = 22
+numberOf BadFunction = 23
+
+-- an instruction put into the two banks at an address: 1 where "the opcode or argument bank isn't 256 bytes"
+unfoldable pub putOf : Instr → List ℕ → List ℕ → Encoded
+putOf i ops args = cond (eqb (length ops) 256) (cond (eqb (length args) 256) (encodeOf i) BadBank) BadBank
+
+-- what an answer leaves in either bank: its byte at the address, or, for a refusal, the bank as it was
+abbrev pub opcodesAfter : Encoded → List ℕ → ℕ → List ℕ
+opcodesAfter (Bytes op arg) bank at = set bank at op
+opcodesAfter BadBank bank at = bank
+opcodesAfter BadRegister bank at = bank
+opcodesAfter BadFunction bank at = bank
+
+abbrev pub argumentsAfter : Encoded → List ℕ → ℕ → List ℕ
+argumentsAfter (Bytes op arg) bank at = set bank at arg
+argumentsAfter BadBank bank at = bank
+argumentsAfter BadRegister bank at = bank
+argumentsAfter BadFunction bank at = bank
+
+-- the whole outcome of putting i into the banks ops and args at an address: the answer, and both banks afterwards
+pub record Put (i : Instr) (ops args : List ℕ) (at : ℕ) (answer : Encoded) (ops′ args′ : List ℕ) : Type 0 where
+  pub answers : answer ≡ putOf i ops args
+  pub opcodes : ops′ ≡ opcodesAfter (putOf i ops args) ops at
+  pub arguments : args′ ≡ argumentsAfter (putOf i ops args) args at
