@@ -1,3 +1,6 @@
 -- Laws that belong to no one function.
-pub mod Joined
+pub mod Assigned
 pub mod Banks
+pub mod DecodeEncode
+pub mod EncodeDecode
+pub mod Joined

@@ -1,6 +1,6 @@
 -- Decoding: which row of the instruction table two bytes are, and what its letters stand for.
 -- Assumes nothing.
-use Prim.Native.Nat.{ℕ, _/_, _%_}
+use Prim.Native.Nat.{ℕ, suc, _/_, _%_}
 use mathlib.Core.Bool.{Bool, cond, _&&_}
 use mathlib.Core.List.{List, [], _∷_}
 use lib.Dec.{eqb}
@@ -62,11 +62,17 @@ matches t e (DDXX p d) = eqb t p
 matches t e (OOAA p a) = eqb t (p / 4) && eqb e (p % 4)
 matches t e (OOXX p) = eqb t (p / 4) && eqb e (p % 4)
 
--- the first form of a list that is a row for t and e. 01: "All 256 opcodes are assigned": of the forty, one row is (proofs/Assigned.antt)
+-- how many forms of a list are rows for t and e. 01: "All 256 opcodes are assigned": of the forty, one is (proofs/Assigned.antt)
+abbrev pub rowsFor : ℕ → ℕ → List Instr → ℕ
+rowsFor t e [] = 0
+rowsFor t e (i ∷ l) = cond (matches t e (opcodeIn (rowOf i))) (suc (rowsFor t e l)) (rowsFor t e l)
+
+-- the first of them
 abbrev pub firstFor : ℕ → ℕ → List Instr → Instr
 firstFor t e [] = Nop
 firstFor t e (i ∷ l) = cond (matches t e (opcodeIn (rowOf i))) i (firstFor t e l)
 
+-- the form with the fixed bits t and d, and with d, a, f, b, i at the letters
 unfoldable pub formOf : ℕ → ℕ → ℕ → ℕ → ℕ → ℕ → Instr
 formOf t d a f b i = firstFor t d (forms d a f b i)
 

@@ -2,7 +2,8 @@
 use super::Instr;
 ghost use mathlib.Core.Path.{_≡_};
 ghost use Prim.Native.Nat.{_/_, _%_, _<_};
-ghost use Rattle.isa.specs.Decode.{formOf, decodeOf};
+ghost use Rattle.isa.specs.Decode.{formOf};
+ghost use Rattle.isa.specs.RoundTrip.{Decodes};
 
 // Bits 1 and 0: Ra of an opcode, Rb of an argument; of an opcode's upper six bits, Rd.
 fn low_pair(x: u8) -> u8
@@ -95,7 +96,7 @@ fn form(g: u8, a: u8, f: u8, b: u8, i: u8) -> Instr
 
 // The instruction of an opcode byte and an argument byte.
 pub fn decode(opcode: u8, argument: u8) -> Instr
-    ensures { λ r. ⌜ r ≡ decodeOf opcode argument ⌝ }
+    ensures { λ r. ⌜ Decodes opcode argument r ⌝ }
 {
     form(
         opcode >> 2,

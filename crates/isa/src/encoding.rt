@@ -7,7 +7,8 @@ use super::Row;
 ghost use mathlib.Core.Path.{_≡_};
 ghost use mathlib.Core.Bool.{false};
 ghost use Rattle.isa.specs.Table.{rowOf, cyclesOf};
-ghost use Rattle.isa.specs.Encode.{badInOpcode, badInArgument, badFunction, opcodeByte, argumentByte, joinOf, encodeOf, numberOf, Put};
+ghost use Rattle.isa.specs.Encode.{badInOpcode, badInArgument, badFunction, opcodeByte, argumentByte, joinOf, numberOf, Put};
+ghost use Rattle.isa.specs.RoundTrip.{Encodes};
 
 // The row of 003's instruction table, with the instruction's fields at its letters.
 pub fn layout(instr: Instr) -> Row
@@ -144,7 +145,7 @@ fn join(row: Row) -> Encoded
 
 // The two bytes of an instruction, or its refusal.
 pub fn encode(instr: Instr) -> Encoded
-    ensures { λ r. ⌜ r ≡ encodeOf instr ⌝ }
+    ensures { λ r. ⌜ Encodes instr r ⌝ }
 {
     join(layout(instr))
 }

@@ -1,7 +1,8 @@
--- The row is joined.
+-- The row is joined; the way back is a law of the table.
 -- Assumes nothing.
 use mathlib.Core.Path.{ap, _∙_}
 use Rattle.isa.specs.Encode.{joinOf, encodeOf}
+use Rattle.isa.proofs.EncodeDecode.{encode-decode}
 use borrow.Author.Needs.{needs}
 use Rattle.isa.proofs.encoding.encode.Statement.{statement}
 use Rattle.isa.proofs.encoding.encode.Tie as tie
@@ -13,4 +14,6 @@ encode-spec =
     (tie.spec
     (λ c κs. search needs)
     (λ c κs. search needs)
-    (λ c. c .join .ensures ∙ ap joinOf (c .before .layout .ensures)))
+    (λ c.
+    let e = c .join .ensures ∙ ap joinOf (c .before .layout .ensures) in
+    record { rule = e; reads-back = rw e (encode-decode (c .before .before .args .instr)) }))

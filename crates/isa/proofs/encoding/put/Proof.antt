@@ -26,7 +26,7 @@ put-spec =
     (λ c. search needs)
     (λ c.
     let a = c .before .before .before .before .before .before .args in
-    let e = good-banks (a .instr) (a .opcodes .now) (a .arguments .now) (c .before .before .before .if1 .left) (c .before .before .if2 .left) ∙ sym (c .before .encode .ensures) in
+    let e = good-banks (a .instr) (a .opcodes .now) (a .arguments .now) (c .before .before .before .if1 .left) (c .before .before .if2 .left) ∙ sym (c .before .encode .ensures .rule) in
     let none : (op arg : ℕ) → c .before .encode .result ≡ Bytes op arg → ⊥ = λ op arg q. ⊎-elim (λ w. omega arith) (λ w. ⊎-elim (λ w. omega arith) (λ w. omega arith) w) (rw q at (c .match .keys2)) in
     record { answers = sym e; opcodes = rw e (sym (refusal-keeps _ none (a .opcodes .now) (a .at) .0)); arguments = rw e (sym (refusal-keeps _ none (a .arguments .now) (a .at) .1)) })
     (λ c. search needs)
@@ -35,5 +35,5 @@ put-spec =
     (λ c. search needs)
     (λ c.
     let a = c .before .before .before .before .before .before .before .before .args in
-    let e = good-banks (a .instr) (a .opcodes .now) (a .arguments .now) (c .before .before .before .before .before .if1 .left) (c .before .before .before .before .if2 .left) ∙ sym (c .before .before .before .encode .ensures) ∙ c .before .e .given .1 in
+    let e = good-banks (a .instr) (a .opcodes .now) (a .arguments .now) (c .before .before .before .before .before .if1 .left) (c .before .before .before .before .if2 .left) ∙ sym (c .before .before .before .encode .ensures .rule) ∙ c .before .e .given .1 in
     record { answers = sym e; opcodes = rw e; arguments = rw e }))
