@@ -1,0 +1,24 @@
+-- The numbers of the encoder's answer.
+-- Assumes nothing.
+use mathlib.Core.Path.{ap, _∙_}
+use Rattle.isa.specs.Encode.{encodeOf}
+use Rattle.boundary.specs.Numbers.{encodingOf}
+use Rattle.boundary.proofs.ThereAndBack.{bytes-read-back}
+use borrow.Author.Needs.{needs}
+use Rattle.boundary.proofs.cesca_encode.Statement.{statement}
+use Rattle.boundary.proofs.cesca_encode.Tie as tie
+
+pub cesca-encode-spec : {M : Type 1} → statement M
+cesca-encode-spec =
+    tie.close
+    (tie.spec
+    (λ c κs. search needs)
+    (λ c κs. search needs)
+    (λ c κs. search needs)
+    (λ c.
+    let e = c .before .encode .ensures in
+    let i = c .before .before .instruction .ensures in
+    record {
+      rule = c .encoding .ensures ∙ ap encodingOf (e .rule ∙ ap encodeOf i);
+      reads-back = rw (← i, c .encoding .ensures) (bytes-read-back _ _ (e .reads-back));
+    }))

@@ -1,0 +1,78 @@
+//! The CESCA machine for Rust programs: a safe function for each one that the proved library
+//! exports, and an independent [`mod@reference`] to hold them against.
+//!
+//! ```
+//! let mov = cesca_host::decode([0x30, 0x05]); // mov R0, 5
+//! assert_eq!((mov.form, mov.d, mov.imm), (6, 0, 5));
+//! assert_eq!(cesca_host::encode(mov), Ok([0x30, 0x05]));
+//! ```
+
+#![warn(missing_docs)]
+
+mod answers;
+mod raw;
+pub mod reference;
+
+pub use answers::{AluAnswer, Class, Effect, Facts, Fields, Overflow, Refusal};
+
+/// The form and fields of a two-byte word, opcode first; free bits are ignored.
+///
+/// Fields that the form's machine code doesn't have are 0.
+pub fn decode(word: [u8; 2]) -> Fields {
+    let [opcode, argument] = word;
+    // SAFETY: plain numbers in and out; the library asks nothing of them.
+    unsafe { raw::cesca_decode(opcode, argument) }
+}
+
+/// The two-byte word of these fields, opcode first and free bits 0, or why there is none.
+///
+/// Fields that the form's machine code doesn't have are ignored.
+pub fn encode(fields: Fields) -> Result<[u8; 2], Refusal> {
+    // SAFETY: plain numbers in and out; the library asks nothing of them.
+    let answer = unsafe { raw::cesca_encode(fields) };
+    let word = [answer.opcode, answer.argument];
+    raw::outcome(answer.number).map(|()| word).inspect_err(|_| {
+        assert_eq!(word, [0, 0], "a refusal comes with zero bytes: {fields:?}");
+    })
+}
+
+/// Whether the word of these fields now stands at address `at` of the two banks.
+///
+/// A refusal leaves both banks as they were: first banks that aren't of 256 bytes, then
+/// whatever [`encode`] refuses.
+pub fn put(
+    fields: Fields,
+    opcodes: &mut [u8],
+    arguments: &mut [u8],
+    at: u8,
+) -> Result<(), Refusal> {
+    // SAFETY: both pointers come with the length of the slice behind them, and the slices are
+    // borrowed for writing during the call, so they don't overlap.
+    let number = unsafe {
+        raw::cesca_put(
+            fields,
+            opcodes.as_mut_ptr(),
+            opcodes.len(),
+            arguments.as_mut_ptr(),
+            arguments.len(),
+            at,
+        )
+    };
+    raw::outcome(number)
+}
+
+/// The result and flags of an ALU function on `x` (Ra), `y` (Rb) and the carry flag before.
+///
+/// A function number over 15 is taken as 15.
+pub fn alu(function: u8, x: u8, y: u8, c: bool) -> AluAnswer {
+    // SAFETY: plain numbers in and out; the library asks nothing of them.
+    unsafe { raw::cesca_alu(function, x, y, c) }.into()
+}
+
+/// What a checker needs to know of an instruction: cycles, way on, and its effect on V.
+///
+/// A function number over 15 is taken as 15.
+pub fn facts(fields: Fields) -> Facts {
+    // SAFETY: plain numbers in and out; the library asks nothing of them.
+    unsafe { raw::cesca_facts(fields) }.into()
+}

@@ -1,0 +1,52 @@
+//! The ALU on every function, pair of operands and carry, the library beside the reference.
+
+use cesca_host::reference::{self, Function};
+use cesca_host::{alu, AluAnswer, Overflow};
+
+/// Every byte with every byte and both carries.
+fn operands() -> impl Iterator<Item = (u8, u8, bool)> {
+    let pairs = (0..=255).flat_map(|x| (0..=255).map(move |y| (x, y)));
+    pairs.flat_map(|(x, y)| [(x, y, false), (x, y, true)])
+}
+
+#[test]
+fn every_function_on_all_operands() {
+    for (number, function) in (0..).zip(Function::ALL) {
+        for (x, y, c) in operands() {
+            let wanted = reference::alu(function, x, y, c);
+            let found = alu(number, x, y, c);
+            assert_eq!(found, wanted, "{function:?} {x}, {y} with C {c}");
+        }
+    }
+}
+
+#[test]
+fn functions_past_the_last_are_rol() {
+    for number in 16..=255 {
+        for (x, y, c) in operands().step_by(251) {
+            let wanted = reference::alu(Function::Rol, x, y, c);
+            let found = alu(number, x, y, c);
+            assert_eq!(found, wanted, "function {number} on {x}, {y} with C {c}");
+        }
+    }
+}
+
+/// Checks a marked row; `set` names the flags that are set, in the order Z, C, S.
+fn check(function: Function, x: u8, y: u8, carry: bool, value: u8, set: &str, v: Overflow) {
+    let [z, c, s] = ['Z', 'C', 'S'].map(|flag| set.contains(flag));
+    let wanted = AluAnswer { value, z, c, s, v };
+    let found = alu(function as u8, x, y, carry);
+    assert_eq!(found, wanted, "{function:?} {x}, {y} with C {carry}");
+}
+
+#[test]
+fn marked_rows() {
+    use Overflow::{Clear, Set, Unsettled};
+    check(Function::Add, 127, 1, false, 128, "S", Set); // M1
+    check(Function::Sub, 0, 1, false, 255, "CS", Clear); // M2
+    check(Function::Sub, 128, 1, false, 127, "", Set); // M3
+    check(Function::Subb, 5, 5, true, 255, "CS", Clear); // M4
+    check(Function::Addc, 255, 0, true, 0, "ZC", Clear); // M5
+    check(Function::Rol, 129, 0, false, 3, "C", Unsettled); // M6
+    check(Function::Sra, 128, 0, false, 192, "S", Unsettled); // M7
+}
