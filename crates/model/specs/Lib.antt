@@ -1,0 +1,5 @@
+pub mod Plan
+pub mod Run
+pub mod State
+pub mod Step
+pub mod Time
