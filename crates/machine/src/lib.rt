@@ -7,9 +7,9 @@ pub mod states;
 pub mod stepping;
 pub mod timing;
 
-//U1
 use model::State;
 use model::Verdict;
+pub use running::run;
 pub use stepping::step;
 pub use timing::running_time;
 
