@@ -10,10 +10,14 @@
 #![warn(missing_docs)]
 
 mod answers;
+mod machine;
+pub mod plain;
 mod raw;
 pub mod reference;
 
 pub use answers::{AluAnswer, Class, Effect, Facts, Fields, Overflow, Refusal};
+pub use machine::{Flags, Lent, Report, RunRefusal, State, Stop, TimeRefusal};
+pub use machine::{FASTEST_CLOCK, MOST_CYCLES, MOST_STEPS};
 
 /// The form and fields of a two-byte word, opcode first; free bits are ignored.
 ///
@@ -75,4 +79,43 @@ pub fn alu(function: u8, x: u8, y: u8, c: bool) -> AluAnswer {
 pub fn facts(fields: Fields) -> Facts {
     // SAFETY: plain numbers in and out; the library asks nothing of them.
     unsafe { raw::cesca_facts(fields) }.into()
+}
+
+/// What a run of at most `budget` steps from `start` reports, or why there is none.
+///
+/// The roll is written from its beginning, and what lies past the words written is kept. A
+/// refusal leaves everything lent as it was: first a bank that isn't of 256 bytes, then a key
+/// position past the end of the keys, then a budget over [`MOST_STEPS`].
+pub fn run(lent: Lent<'_>, budget: u32, start: State) -> Result<Report, RunRefusal> {
+    let Lent { opcodes, arguments, keys, ram, stack, roll } = lent;
+    // SAFETY: each pointer comes with the length of the slice behind it, and the slices written
+    // to are borrowed for writing during the call, so they overlap nothing.
+    let answer = unsafe {
+        raw::run::cesca_run(
+            opcodes.as_ptr(),
+            opcodes.len(),
+            arguments.as_ptr(),
+            arguments.len(),
+            keys.as_ptr(),
+            keys.len(),
+            ram.as_mut_ptr(),
+            ram.len(),
+            stack.as_mut_ptr(),
+            stack.len(),
+            roll.as_mut_ptr(),
+            roll.len(),
+            budget,
+            start.into(),
+        )
+    };
+    answer.outcome(start)
+}
+
+/// The time of so many cycles at a clock in Hz, in tenths of a second, or why none is told.
+///
+/// It is rounded to the nearest tenth, a half going up. First a clock of 0 or over
+/// [`FASTEST_CLOCK`] is refused, then cycles over [`MOST_CYCLES`].
+pub fn running_time(cycles: u32, clock: u32) -> Result<u32, TimeRefusal> {
+    // SAFETY: plain numbers in and out; the library asks nothing of them.
+    unsafe { raw::run::cesca_running_time(cycles, clock) }.outcome()
 }

@@ -1,5 +1,7 @@
 //! The library's exports as C sees them, and their answers read into this crate's words.
 
+pub mod run;
+
 use crate::{AluAnswer, Class, Effect, Facts, Fields, Overflow, Refusal};
 
 /// An encoder's answer: 0 and the word, or a ground's number and zero bytes.

@@ -1,9 +1,13 @@
 // The functions that a host calls, on numbers and slices. `specs/Numbers.antt` says what each number
 // means.
 pub mod numbers;
+pub mod runs;
 
 ghost use mathlib.Core.Path.{_≡_};
 ghost use Rattle.alu.specs.Alu.{aluOf};
+ghost use Rattle.model.specs.Run.{callOf};
+ghost use Rattle.model.specs.Time.{timeOf};
+ghost use Rattle.boundary.specs.Runs.{stateOf, timeNumbers, RunNumbered};
 ghost use Rattle.boundary.specs.Numbers.{instrOf, computedNumbers, factNumbersOf, PutNumber, Decoded, EncodedAs};
 
 // An instruction: row of the instruction table, d, a, f, b, immediate or address.
@@ -21,6 +25,36 @@ pub struct ComputedNumbers(pub u8, pub bool, pub bool, pub bool, pub u8);
 // An instruction's facts: cycles, class, operand, effect on V, tests V, writes the roll.
 #[repr(C)]
 pub struct FactNumbers(pub u8, pub u8, pub u8, pub u8, pub bool, pub bool);
+
+// A state: R0 to R3, PC, SP, output register, Z, C, S, V, halted, position.
+#[repr(C)]
+pub struct StateNumbers(
+    pub [u8; 4],
+    pub u8,
+    pub u8,
+    pub u8,
+    pub bool,
+    pub bool,
+    pub bool,
+    pub u8,
+    pub bool,
+    pub usize,
+);
+
+// A run's report: number, stop, steps, cycles, roll words, state.
+#[repr(C)]
+pub struct RunNumbers(
+    pub u8,
+    pub u8,
+    pub u32,
+    pub u32,
+    pub usize,
+    pub StateNumbers,
+);
+
+// A running time: number, tenths.
+#[repr(C)]
+pub struct TimeNumbers(pub u8, pub u32);
 
 // The instruction of an opcode byte and an argument byte, as numbers.
 #[no_mangle]
@@ -64,4 +98,33 @@ pub extern "C" fn cesca_facts(fields: Fields) -> FactNumbers
     let facts = isa::classify(instr);
     let class = facts.0;
     numbers::fact_numbers(isa::cycles(instr), class, facts.1)
+}
+
+// A run's report, or the number of a refusal that leaves everything lent as it was.
+#[no_mangle]
+pub extern "C" fn cesca_run(
+    opcodes: &[u8],
+    arguments: &[u8],
+    keys: &[u8],
+    ram: &mut [u8],
+    stack: &mut [u8],
+    roll: &mut [u16],
+    budget: u32,
+    start: StateNumbers,
+) -> RunNumbers
+    ensures { λ r. ⌜ RunNumbered (callOf (now (opcodes .entry)) (now (arguments .entry)) (now (keys .entry)) budget (stateOf start) (now (ram .entry)) (now (stack .entry)) (now (roll .entry))) r (now (ram .exit)) (now (stack .exit)) (now (roll .exit)) ⌝ }
+{
+    let s = runs::state_of(start);
+    let report = machine::run(opcodes, arguments, keys, ram, stack, roll, budget, s);
+    let answer = report.answer;
+    let reached = report.state;
+    runs::run_numbers(answer, reached)
+}
+
+// The tenths of a second that so many cycles take at a clock in Hz, or the number of a refusal.
+#[no_mangle]
+pub extern "C" fn cesca_running_time(cycles: u32, clock: u32) -> TimeNumbers
+    ensures { λ r. ⌜ r ≡ timeNumbers (timeOf cycles clock) ⌝ }
+{
+    runs::time_numbers(machine::running_time(cycles, clock))
 }

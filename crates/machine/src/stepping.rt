@@ -1,15 +1,14 @@
 // A step, unless something stops it.
-use super::Act;
 use super::Turn;
-use super::effects;
-use super::memory;
-use super::states;
+use effects::Act;
+use effects::states;
 use model::State;
 use model::Stop;
 use model::Verdict;
 ghost use mathlib.Core.Path.{_≡_};
-ghost use Prim.Native.Nat.{_≤_};
-ghost use Rattle.machine.specs.Effects.{operated};
+ghost use Prim.Native.Nat.{_+_, _<_, _≤_};
+ghost use lib.ListN.{length, set};
+ghost use Rattle.effects.specs.Effects.{operated};
 ghost use Rattle.machine.specs.Turns.{program, machineAt, Turned};
 
 // A count of cycles as a wider number.
@@ -27,6 +26,15 @@ fn operate(s: State, d: u8, f: u8, x: u8, y: u8) -> State
     let o = alu::alu(f, x, y, before.c);
     let after = o.flags;
     states::to_register(states::to_flags(s, after), d, o.value)
+}
+
+// A word is put at the roll's next free place, and the place after it is handed back.
+fn send(roll: &mut [u16], words: usize, w: u16) -> usize
+    requires { ⌜ words < length (now roll) ⌝ }
+    ensures { λ r. ⌜ (now (roll .exit) ≡ set (now (roll .entry)) words w) × (r ≡ words + 1) ⌝ }
+{
+    roll[words] = w;
+    words + 1
 }
 
 // One step, or the stop that prevents it, at a machine with budget left.
@@ -52,7 +60,7 @@ pub fn step(
     }
     let pc = s.pc;
     let fetched = states::to_pc(s, std::num::wrapping_add_u8(pc, 1));
-    let instr = isa::decode(memory::load(opcodes, pc), memory::load(arguments, pc));
+    let instr = isa::decode(slices::load(opcodes, pc), slices::load(arguments, pc));
     let e = effects::judge(instr, fetched, keys, ram, stack);
     let n = wide(e.cycles);
     let act = e.act;
@@ -84,7 +92,7 @@ pub fn step(
             }
         }
         Act::Data(a, x) => {
-            memory::store(ram, a, x);
+            slices::store(ram, a, x);
             Turn {
                 verdict: Verdict::Go,
                 cycles: n,
@@ -93,7 +101,7 @@ pub fn step(
             }
         }
         Act::Stack(a, x) => {
-            memory::store(stack, a, x);
+            slices::store(stack, a, x);
             Turn {
                 verdict: Verdict::Go,
                 cycles: n,
@@ -103,7 +111,7 @@ pub fn step(
         }
         Act::Roll(w) => {
             if words < roll.len() {
-                let more = memory::send(roll, words, w);
+                let more = send(roll, words, w);
                 Turn {
                     verdict: Verdict::Go,
                     cycles: n,

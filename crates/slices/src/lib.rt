@@ -1,6 +1,6 @@
-// Total reads of a lent slice.
+// Total reads and writes of lent bytes.
 ghost use mathlib.Core.Path.{_≡_};
-ghost use lib.ListN.{getD, take, drop};
+ghost use lib.ListN.{getD, set, take, drop};
 
 // The byte at a place, 0 past the end.
 pub fn byte_at(s: &[u8], at: usize) -> u8
@@ -20,4 +20,21 @@ pub fn part(s: &[u8], at: usize, n: usize) -> &[u8]
         return &s[at..];
     }
     &s[at..at + n]
+}
+
+// The byte at an address; 0 past the bank's end.
+pub fn load(bank: &[u8], a: u8) -> u8
+    ensures { λ r. ⌜ r ≡ getD (now (bank .entry)) a 0 ⌝ }
+{
+    byte_at(bank, a as usize)
+}
+
+// A byte is put at an address; past the bank's end nothing changes.
+pub fn store(bank: &mut [u8], a: u8, v: u8)
+    ensures { λ _. ⌜ now (bank .exit) ≡ set (now (bank .entry)) a v ⌝ }
+{
+    let i = a as usize;
+    if i < bank.len() {
+        bank[i] = v;
+    }
 }

@@ -7,7 +7,7 @@ use Rattle.model.specs.State.{withPc}
 use Rattle.model.specs.declared.State.{State}
 use Rattle.model.specs.Step.{instrAt, fetched, enactedOf}
 use Rattle.model.specs.declared.Stop.the-variants.{Unsettled, Full}
-use Rattle.machine.specs.Effects.{judgedBy, judgedOf}
+use Rattle.effects.specs.Effects.{judgedBy, judgedOf}
 use Rattle.machine.specs.Turns.{program}
 use Rattle.machine.proofs.TurnsTaken.{turn-asleep, turn-goes, turn-stops}
 use borrow.Author.Needs.{needs}

@@ -1,0 +1,134 @@
+//! The exports for runs and running times, and their answers read into this crate's words.
+
+use super::{overflow, unknown};
+use crate::{Flags, Overflow, Report, RunRefusal, State, Stop, TimeRefusal};
+
+/// A state, V as a number.
+#[repr(C)]
+#[derive(Clone, Copy)]
+pub struct StateNumbers {
+    regs: [u8; 4],
+    pc: u8,
+    sp: u8,
+    out: u8,
+    z: bool,
+    c: bool,
+    s: bool,
+    v: u8,
+    halted: bool,
+    position: usize,
+}
+
+/// A run's answer: 0 and the report, or a ground's number, zeros and the state lent.
+#[repr(C)]
+pub struct RunNumbers {
+    number: u8,
+    stop: u8,
+    steps: u32,
+    cycles: u32,
+    words: usize,
+    state: StateNumbers,
+}
+
+/// A running time's answer: 0 and the tenths of a second, or a ground's number and 0.
+#[repr(C)]
+pub struct TimeNumbers {
+    number: u8,
+    tenths: u32,
+}
+
+extern "C" {
+    pub fn cesca_run(
+        opcodes: *const u8,
+        opcodes_len: usize,
+        arguments: *const u8,
+        arguments_len: usize,
+        keys: *const u8,
+        keys_len: usize,
+        ram: *mut u8,
+        ram_len: usize,
+        stack: *mut u8,
+        stack_len: usize,
+        roll: *mut u16,
+        roll_len: usize,
+        budget: u32,
+        start: StateNumbers,
+    ) -> RunNumbers;
+    pub fn cesca_running_time(cycles: u32, clock: u32) -> TimeNumbers;
+}
+
+impl RunNumbers {
+    /// The report for 0, else the refusal of that number; `start` is the state lent.
+    pub fn outcome(self, start: State) -> Result<Report, RunRefusal> {
+        let number = self.number;
+        let report = Report::from(self);
+        let refusal = match number {
+            0 => return Ok(report),
+            17 => RunRefusal::Bank,
+            18 => RunRefusal::Position,
+            19 => RunRefusal::Budget,
+            _ => unknown("refusal of a run", number),
+        };
+        let nothing = Report { stop: stop(0), steps: 0, cycles: 0, words: 0, state: start };
+        assert_eq!(report, nothing, "a refusal comes with zeros and the state lent");
+        Err(refusal)
+    }
+}
+
+impl TimeNumbers {
+    /// The tenths of a second for 0, else the refusal of that number.
+    pub fn outcome(self) -> Result<u32, TimeRefusal> {
+        let refusal = match self.number {
+            0 => return Ok(self.tenths),
+            20 => TimeRefusal::Clock,
+            21 => TimeRefusal::Cycles,
+            _ => unknown("refusal of a time", self.number),
+        };
+        assert_eq!(self.tenths, 0, "a refusal comes with no time");
+        Err(refusal)
+    }
+}
+
+impl From<RunNumbers> for Report {
+    fn from(raw: RunNumbers) -> Report {
+        let RunNumbers { steps, cycles, words, .. } = raw;
+        Report { stop: stop(raw.stop), steps, cycles, words, state: raw.state.into() }
+    }
+}
+
+impl From<StateNumbers> for State {
+    fn from(raw: StateNumbers) -> State {
+        let StateNumbers { regs, pc, sp, out, z, c, s, v, halted, position } = raw;
+        State { regs, pc, sp, out, flags: Flags { z, c, v: overflow(v), s }, halted, position }
+    }
+}
+
+impl From<State> for StateNumbers {
+    fn from(state: State) -> StateNumbers {
+        let State { regs, pc, sp, out, flags: Flags { z, c, v, s }, halted, position } = state;
+        StateNumbers { regs, pc, sp, out, z, c, s, v: number(v), halted, position }
+    }
+}
+
+/// The stop with this number.
+fn stop(number: u8) -> Stop {
+    match number {
+        0 => Stop::Halted,
+        1 => Stop::Spent,
+        2 => Stop::Unsettled,
+        3 => Stop::Full,
+        _ => unknown("stop", number),
+    }
+}
+
+/// The number of a value of V.
+fn number(v: Overflow) -> u8 {
+    match v {
+        Overflow::Clear => 0,
+        Overflow::Set => 1,
+        Overflow::Unsettled => 2,
+    }
+}
+
+#[cfg(test)]
+mod tests;

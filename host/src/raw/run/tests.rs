@@ -1,0 +1,54 @@
+//! States lent with a number of V that this crate's words can't name.
+
+use super::*;
+
+/// The library's answer on a bank of this word, with a roll of no words and no keys.
+fn run(word: [u8; 2], budget: u32, start: StateNumbers) -> RunNumbers {
+    let [opcodes, arguments] = word.map(|byte| [byte; 256]);
+    let (mut ram, mut stack) = ([0u8; 256], [0u8; 256]);
+    let (keys, roll) = (<&[u8]>::default(), <&mut [u16]>::default());
+    // SAFETY: each pointer comes with the length of the memory behind it, all of it apart.
+    unsafe {
+        cesca_run(
+            opcodes.as_ptr(),
+            opcodes.len(),
+            arguments.as_ptr(),
+            arguments.len(),
+            keys.as_ptr(),
+            keys.len(),
+            ram.as_mut_ptr(),
+            ram.len(),
+            stack.as_mut_ptr(),
+            stack.len(),
+            roll.as_mut_ptr(),
+            roll.len(),
+            budget,
+            start,
+        )
+    }
+}
+
+/// The start state with this number for V.
+fn with_v(v: u8) -> StateNumbers {
+    StateNumbers { v, ..State::start().into() }
+}
+
+#[test]
+fn every_other_number_lent_is_unsettled() {
+    for v in 2..=255 {
+        let jumped = run([0xC0, 0x00], 1, with_v(v)); // jv 0
+        assert_eq!((jumped.number, jumped.stop, jumped.steps), (0, 2, 0), "V {v}");
+        assert_eq!(jumped.state.v, 2, "V {v}");
+        let passed = run([0xFC, 0x00], 1, with_v(v)); // nop
+        assert_eq!((passed.number, passed.stop, passed.steps), (0, 1, 1), "V {v}");
+        assert_eq!(passed.state.v, 2, "V {v}");
+    }
+}
+
+#[test]
+fn a_refusal_hands_back_the_number_of_what_was_lent() {
+    for v in 0..=255 {
+        let refused = run([0xFC, 0x00], 1_000_001, with_v(v));
+        assert_eq!((refused.number, refused.state.v), (19, v.min(2)), "V {v}");
+    }
+}
