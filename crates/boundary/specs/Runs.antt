@@ -22,8 +22,11 @@ use Rattle.boundary.specs.declared.StateNumbers.{StateNumbers}
 use Rattle.boundary.specs.declared.TimeNumbers.{TimeNumbers}
 
 -- V: 0 clear, 1 set, and any other number unsettled
+abbrev pub settledNumbers : List Overflow
+settledNumbers = overflow.Settled false ∷ overflow.Settled true ∷ []
+
 abbrev pub overflowOf : ℕ → Overflow
-overflowOf n = getD (overflow.Settled false ∷ overflow.Settled true ∷ []) n overflow.Unsettled
+overflowOf n = getD settledNumbers n overflow.Unsettled
 
 -- R0 to R3, PC, SP, output register, Z, C, S, V, halted, position
 abbrev pub stateOf : StateNumbers → State

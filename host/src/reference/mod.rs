@@ -7,7 +7,9 @@ mod alu;
 mod facts;
 mod form;
 mod instruction;
+mod machine;
 
 pub use alu::{alu, Function};
 pub use form::Form;
 pub use instruction::{Instruction, BANK};
+pub use machine::{run, run_watched, Step};

@@ -1,20 +1,18 @@
+-- 0 and 1 stand in the list; any other number is past its end.
+-- Assumes nothing.
+use mathlib.Core.Path.{sym}
+use lib.ListN.{List·getD-eq-default}
+use Rattle.slices.proofs.Arms.{past}
+use Rattle.alu.specs.declared.Overflow.the-variants.{Unsettled}
+use Rattle.boundary.specs.Runs.{settledNumbers}
 use borrow.Author.Needs.{needs}
 use Rattle.boundary.proofs.runs.overflow_of.Statement.{statement}
 use Rattle.boundary.proofs.runs.overflow_of.Tie as tie
-use Rattle.boundary.proofs.runs.overflow_of.Reads as reads
-use Rattle.boundary.proofs.runs.overflow_of.Lts as lts
-
--- src/runs.rt:18:1
-returns : tie.Need-returns
-returns c = search needs
-
--- src/runs.rt:18:1
-returns-2 : tie.Need-returns-2
-returns-2 c = search needs
-
--- src/runs.rt:18:1
-returns-3 : tie.Need-returns-3
-returns-3 c = ?
 
 pub overflow-of-spec : {M : Type 1} → statement M
-overflow-of-spec = tie.close (tie.spec returns returns-2 returns-3)
+overflow-of-spec =
+    tie.close
+    (tie.spec
+    (λ c. search needs)
+    (λ c. search needs)
+    (λ c. sym (List·getD-eq-default settledNumbers Unsettled (past _ 2 (c .match .rest)))))
