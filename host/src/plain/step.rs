@@ -65,7 +65,11 @@ impl Machine<'_> {
         };
         self.state.pc = next;
         self.cycles += cycles;
-        if self.state.halted { Err(Stop::Halted) } else { Ok(()) }
+        if self.state.halted {
+            Err(Stop::Halted)
+        } else {
+            Ok(())
+        }
     }
 
     /// The result of an ALU function; the flags are taken over.

@@ -1,11 +1,12 @@
 //! A step, an arm for each row that the CESCA document details.
 
-use super::super::{alu, Form, Function, Instruction};
 use super::Machine;
+use crate::reference::{alu, Form, Function, Instruction};
 use crate::{AluAnswer, Flags, Overflow};
 
 impl Machine<'_> {
     /// Makes the step of an instruction that nothing stops.
+    #[rustfmt::skip]
     pub(super) fn step(&mut self, instruction: Instruction) {
         use Form::*;
         let Instruction { form, imm, .. } = instruction;
@@ -16,49 +17,49 @@ impl Machine<'_> {
         let v = v == Overflow::Set;
         self.state.pc = self.state.pc.wrapping_add(1);
         match form {
-            Alu => self.state.regs[d] = self.alu(function, ra, rb), // Rd = ALU(Ra, Rb)
+            Alu => self.state.regs[d] = self.alu(function, ra, rb),          // Rd = ALU(Ra, Rb)
             AddImm => self.state.regs[d] = self.alu(Function::Add, ra, imm), // Rd = Ra + Imm8
-            AluNone => self.compare(function, ra, rb),              // ALU(Ra, Rb)
-            CmpImm => self.compare(Function::Sub, ra, imm),         // Ra - Imm8
-            MaskImm => self.compare(Function::And, ra, imm),        // Ra & Imm8
-            MaskIn => self.compare(Function::And, self.input(), imm), // IN_Reg & Imm8
+            AluNone => self.compare(function, ra, rb),                       // ALU(Ra, Rb)
+            CmpImm => self.compare(Function::Sub, ra, imm),                  // Ra - Imm8
+            MaskImm => self.compare(Function::And, ra, imm),                 // Ra & Imm8
+            MaskIn => self.compare(Function::And, self.input(), imm),        // IN_Reg & Imm8
 
-            MovImm => self.state.regs[d] = imm,          // Rd = Imm8
-            MovIn => self.state.regs[d] = self.input(),  // Rd = IN_Reg
-            Ack => self.acknowledge(),                   // IN_Reg <- Ack
-            Store => self.store(imm, ra),                // RAM[Addr8] = Ra
-            StoreAt => self.store(rb, ra),               // RAM[Rb] = Ra
-            Push => self.push(ra),                       // Stack <- Ra
-            Load => self.state.regs[d] = self.load(imm), // Rd = RAM[Addr8]
-            LoadAt => self.state.regs[d] = self.load(ra), // Rd = RAM[Ra]
-            Pop => self.state.regs[d] = self.pop(),      // Rd <- Stack
-            Swap => self.state.regs[d] = self.exchange(ra), // Rd <- Stack <- Ra
+            MovImm => self.state.regs[d] = imm,                 // Rd = Imm8
+            MovIn => self.state.regs[d] = self.input(),         // Rd = IN_Reg
+            Ack => self.acknowledge(),                          // IN_Reg <- Ack
+            Store => self.store(imm, ra),                       // RAM[Addr8] = Ra
+            StoreAt => self.store(rb, ra),                      // RAM[Rb] = Ra
+            Push => self.push(ra),                              // Stack <- Ra
+            Load => self.state.regs[d] = self.load(imm),        // Rd = RAM[Addr8]
+            LoadAt => self.state.regs[d] = self.load(ra),       // Rd = RAM[Ra]
+            Pop => self.state.regs[d] = self.pop(),             // Rd <- Stack
+            Swap => self.state.regs[d] = self.exchange(ra),     // Rd <- Stack <- Ra
 
-            Jmp => self.jump_if(true, imm),   // PC = Addr8
-            JmpReg => self.jump_if(true, ra), // PC = Ra
-            Call => self.call(imm),           // pushes the next address, PC = Addr8
-            Ret => self.state.pc = self.pop(), // PC <- Stack
-            Jz => self.jump_if(z, imm),       // if(Z) PC = Addr8
-            Jnz => self.jump_if(!z, imm),     // if(!Z)
-            Jc => self.jump_if(c, imm),       // if(C)
-            Jnc => self.jump_if(!c, imm),     // if(!C), misprinted as if(!Z)
-            Jv => self.jump_if(v, imm),       // if(V)
-            Jnv => self.jump_if(!v, imm),     // if(!V)
-            Jlz => self.jump_if(s, imm),      // if(S)
-            Jp => self.jump_if(!s, imm),      // if(!S)
-            Jgz => self.jump_if(!s && !z, imm), // if(!S & !Z)
-            Jleu => self.jump_if(z || c, imm), // if(Z|C)
-            Jlt => self.jump_if(v != s, imm), // if(V^S)
-            Jle => self.jump_if(v != s || z, imm), // if((V^S)|Z)
+            Jmp => self.jump_if(true, imm),                     // PC = Addr8
+            JmpReg => self.jump_if(true, ra),                   // PC = Ra
+            Call => self.call(imm),                             // Stack <- PC, PC = Addr8
+            Ret => self.state.pc = self.pop(),                  // PC <- Stack
+            Jz => self.jump_if(z, imm),                         // if(Z) PC = Addr8
+            Jnz => self.jump_if(!z, imm),                       // if(!Z)
+            Jc => self.jump_if(c, imm),                         // if(C)
+            Jnc => self.jump_if(!c, imm),                       // if(!C), printed if(!Z)
+            Jv => self.jump_if(v, imm),                         // if(V)
+            Jnv => self.jump_if(!v, imm),                       // if(!V)
+            Jlz => self.jump_if(s, imm),                        // if(S)
+            Jp => self.jump_if(!s, imm),                        // if(!S)
+            Jgz => self.jump_if(!s && !z, imm),                 // if(!S & !Z)
+            Jleu => self.jump_if(z || c, imm),                  // if(Z | C)
+            Jlt => self.jump_if(v ^ s, imm),                    // if(V ^ S)
+            Jle => self.jump_if((v ^ s) || z, imm),             // if((V ^ S) | Z)
 
-            LcdCommand => self.transfer(256 + u16::from(imm)), // LCD[Command] <- Imm8
-            LcdImm => self.transfer(u16::from(imm)),           // LCD[Data] <- Imm8
-            LcdReg => self.transfer(u16::from(ra)),            // LCD[Data] <- Ra
-            LcdLoad => self.transfer(u16::from(self.load(imm))), // LCD[Data] <- RAM[Addr8]
-            OutReg => self.state.out = ra,                     // OUT_Reg <- Ra
-            OutLoad => self.state.out = self.load(imm),        // OUT_Reg <- RAM[Addr8]
-            Hlt => self.state.halted = true,                   // the program ends
-            Nop => (),                                         // nothing
+            LcdCommand => self.transfer(256 + u16::from(imm)),  // LCD[Command] <- Imm8
+            LcdImm => self.transfer(imm.into()),                // LCD[Data] <- Imm8
+            LcdReg => self.transfer(ra.into()),                 // LCD[Data] <- Ra
+            LcdLoad => self.transfer(self.load(imm).into()),    // LCD[Data] <- RAM[Addr8]
+            OutReg => self.state.out = ra,                      // OUT_Reg <- Ra
+            OutLoad => self.state.out = self.load(imm),         // OUT_Reg <- RAM[Addr8]
+            Hlt => self.state.halted = true,                    // halts the clock
+            Nop => (),                                          // does nothing
         }
     }
 

@@ -1,0 +1,27 @@
+//! Runs and running times: the library beside the reference, by hand and at random.
+
+mod by_hand;
+mod case;
+mod jumps;
+mod laws;
+mod memory;
+mod random;
+mod refusals;
+mod runs;
+mod stack;
+mod stops;
+mod tally;
+mod time;
+mod transfers;
+
+use cesca_host::{plain, reference, Lent, Report, RunRefusal, State};
+
+/// A machine: what a run reports, or why it is refused.
+type Machine = fn(Lent<'_>, u32, State) -> Result<Report, RunRefusal>;
+
+/// The three machines by name.
+const MACHINES: [(&str, Machine); 3] = [
+    ("the library", cesca_host::run),
+    ("the reference", reference::run),
+    ("the plain machine", plain::run),
+];

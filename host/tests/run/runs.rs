@@ -1,0 +1,54 @@
+//! Random runs, the library and the plain machine beside the reference.
+
+use crate::case::Case;
+use crate::memory::Memory;
+use crate::random::each_case;
+use crate::tally::Tally;
+use crate::Machine;
+use cesca_host::{plain, reference};
+
+/// The calls made of each machine.
+const CASES: u64 = 250_000;
+
+/// Checks a machine on random calls: outcome and everything lent, guards included.
+fn check(machine: Machine) {
+    let mut tally = Tally::new();
+    each_case(CASES, |random| {
+        let Case { memory: before, budget, start } = Case::random(random);
+        let mut wanted_memory = before.clone();
+        let lent = wanted_memory.lend();
+        let wanted = reference::run_watched(lent, budget, start, |step| tally.step(step));
+        tally.outcome(wanted);
+
+        let mut memory = before.clone();
+        let found = machine(memory.lend(), budget, start);
+        let inputs = || format!("budget {budget} from {start:?} with {before:?}");
+        assert_eq!(found, wanted, "{}", inputs());
+        assert!(memory == wanted_memory, "{} {}", differences(&memory, &wanted_memory), inputs());
+    });
+    tally.check();
+}
+
+/// The places of what was lent that differ.
+fn differences(found: &Memory, wanted: &Memory) -> String {
+    let buffers = [
+        ("opcodes", found.opcodes.differences(&wanted.opcodes)),
+        ("arguments", found.arguments.differences(&wanted.arguments)),
+        ("keys", found.keys.differences(&wanted.keys)),
+        ("ram", found.ram.differences(&wanted.ram)),
+        ("stack", found.stack.differences(&wanted.stack)),
+        ("roll", found.roll.differences(&wanted.roll)),
+    ];
+    let different = buffers.into_iter().filter(|(_, places)| !places.is_empty());
+    different.map(|(name, places)| format!("{name}: {}\n", places.join(", "))).collect()
+}
+
+#[test]
+fn the_library_runs_as_the_reference() {
+    check(cesca_host::run);
+}
+
+#[test]
+fn the_plain_machine_runs_as_the_reference() {
+    check(plain::run);
+}
