@@ -1,10 +1,28 @@
 //! The CESCA machine for Rust programs: a safe function for each one that the proved library
-//! exports, and an independent [`mod@reference`] to hold them against.
+//! exports, an independent [`mod@reference`] to hold them against, and a [`plain`] machine to
+//! measure them by.
 //!
 //! ```
 //! let mov = cesca_host::decode([0x30, 0x05]); // mov R0, 5
 //! assert_eq!((mov.form, mov.d, mov.imm), (6, 0, 5));
 //! assert_eq!(cesca_host::encode(mov), Ok([0x30, 0x05]));
+//!
+//! use cesca_host::{Lent, State, Stop};
+//! let (mut opcodes, mut arguments) = ([0xF8; 256], [0; 256]); // hlt
+//! (opcodes[0], arguments[0]) = (0x30, 0x05);
+//! let (mut ram, mut stack) = ([0; 256], [0; 256]);
+//! let lent = Lent {
+//!     opcodes: &opcodes,
+//!     arguments: &arguments,
+//!     keys: &[],
+//!     ram: &mut ram,
+//!     stack: &mut stack,
+//!     roll: &mut [],
+//! };
+//! let report = cesca_host::run(lent, 1_000, State::start()).unwrap();
+//! assert_eq!((report.stop, report.steps, report.cycles), (Stop::Halted, 2, 5));
+//! assert_eq!(report.state.regs, [5, 0, 0, 0]);
+//! assert_eq!(cesca_host::running_time(report.cycles, 100), Ok(1)); // tenths of a second
 //! ```
 
 #![warn(missing_docs)]

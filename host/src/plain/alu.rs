@@ -3,7 +3,7 @@
 use crate::{Flags, Overflow};
 
 /// The result and flags of the function that the low four bits of a number name.
-#[inline]
+#[inline(always)]
 pub fn alu(function: u8, x: u8, y: u8, c: bool) -> (u8, Flags) {
     match function & 15 {
         0 => bits(y),

@@ -7,6 +7,7 @@ use crate::{Flags, Overflow, Stop};
 impl Machine<'_> {
     /// Makes a step, or yields why it isn't made; after `hlt`, why none follows.
     #[inline]
+    #[expect(clippy::manual_range_patterns, reason = "ranges would be compared one by one")]
     pub(super) fn step(&mut self) -> Result<(), Stop> {
         let at = usize::from(self.state.pc);
         let (opcode, argument) = (self.opcodes[at], self.arguments[at]);
@@ -21,62 +22,69 @@ impl Machine<'_> {
             3
         };
         #[rustfmt::skip]
-        let cycles = match opcode {
-            0x00..=0x0F => { self.state.regs[d] = self.flagged(alu(argument >> 4, ra, rb, c)); 4 }
-            0x10..=0x1F => { self.state.regs[d] = self.flagged(add(ra, argument, false)); 4 }
-            0x20..=0x23 => { self.flagged(alu(argument >> 4, ra, rb, c)); 3 }
-            0x24..=0x27 => { self.flagged(sub(ra, argument, false)); 3 }
-            0x28..=0x2B => { self.flagged(bits(ra & argument)); 3 }
-            0x2C..=0x2F => { self.flagged(bits(self.input() & argument)); 5 }
-            0x30..=0x3F => { self.state.regs[d] = argument; 3 }
-            0x40..=0x4F => { self.state.regs[d] = self.input(); 4 }
-            0x50..=0x53 => { self.acknowledge(); 3 }
-            0x54..=0x57 => { self.ram[usize::from(argument)] = ra; 4 }
-            0x58..=0x5B => { self.ram[usize::from(rb)] = ra; 5 }
-            0x5C..=0x5F => { self.push(ra); 5 }
-            0x60..=0x6F => { self.state.regs[d] = self.ram[usize::from(argument)]; 4 }
-            0x70..=0x7F => { self.state.regs[d] = self.ram[usize::from(ra)]; 4 }
-            0x80..=0x8F => { self.state.regs[d] = self.pop(); 4 }
-            0x90..=0x9F => { self.state.regs[d] = self.exchange(ra); 5 }
-            0xA0..=0xA3 => jump_if(true),
-            0xA4..=0xA7 => { next = ra; 3 }
-            0xA8..=0xAB => { self.push(next); next = argument; 6 }
-            0xAC..=0xAF => { next = self.pop(); 4 }
-            0xB0..=0xB3 => jump_if(z),
-            0xB4..=0xB7 => jump_if(!z),
-            0xB8..=0xBB => jump_if(c),
-            0xBC..=0xBF => jump_if(!c),
-            0xC0..=0xC3 => jump_if(self.overflow()?),
-            0xC4..=0xC7 => jump_if(!self.overflow()?),
-            0xC8..=0xCB => jump_if(s),
-            0xCC..=0xCF => jump_if(!s),
-            0xD0..=0xD3 => jump_if(!s && !z),
-            0xD4..=0xD7 => jump_if(z || c),
-            0xD8..=0xDB => jump_if(self.overflow()? != s),
-            0xDC..=0xDF => jump_if(self.overflow()? != s || z),
-            0xE0..=0xE3 => { self.transfer(u16::from(argument) | 256)?; 3 }
-            0xE4..=0xE7 => { self.transfer(u16::from(argument))?; 3 }
-            0xE8..=0xEB => { self.transfer(u16::from(ra))?; 3 }
-            0xEC..=0xEF => { self.transfer(u16::from(self.ram[usize::from(argument)]))?; 4 }
-            0xF0..=0xF3 => { self.state.out = ra; 3 }
-            0xF4..=0xF7 => { self.state.out = self.ram[usize::from(argument)]; 4 }
-            0xF8..=0xFB => { self.state.halted = true; 2 }
-            0xFC..=0xFF => 8,
+        let cycles = match opcode >> 2 {
+            0x00 | 0x01 | 0x02 | 0x03 => { self.set(d, alu(argument >> 4, ra, rb, c)); 4 }
+            0x04 | 0x05 | 0x06 | 0x07 => { self.set(d, add(ra, argument, false)); 4 }
+            0x08 => { self.state.flags = alu(argument >> 4, ra, rb, c).1; 3 }
+            0x09 => { self.state.flags = sub(ra, argument, false).1; 3 }
+            0x0A => { self.state.flags = bits(ra & argument).1; 3 }
+            0x0B => { self.state.flags = bits(self.input() & argument).1; 5 }
+
+            0x0C | 0x0D | 0x0E | 0x0F => { self.state.regs[d] = argument; 3 }
+            0x10 | 0x11 | 0x12 | 0x13 => { self.state.regs[d] = self.input(); 4 }
+            0x14 => { self.acknowledge(); 3 }
+            0x15 => { self.ram[usize::from(argument)] = ra; 4 }
+            0x16 => { self.ram[usize::from(rb)] = ra; 5 }
+            0x17 => { self.push(ra); 5 }
+            0x18 | 0x19 | 0x1A | 0x1B => { self.state.regs[d] = self.ram[usize::from(argument)]; 4 }
+            0x1C | 0x1D | 0x1E | 0x1F => { self.state.regs[d] = self.ram[usize::from(ra)]; 4 }
+            0x20 | 0x21 | 0x22 | 0x23 => { self.state.regs[d] = self.pop(); 4 }
+            0x24 | 0x25 | 0x26 | 0x27 => { self.state.regs[d] = self.exchange(ra); 5 }
+
+            0x28 => jump_if(true),
+            0x29 => { next = ra; 3 }
+            0x2A => { self.push(next); next = argument; 6 }
+            0x2B => { next = self.pop(); 4 }
+            0x2C => jump_if(z),
+            0x2D => jump_if(!z),
+            0x2E => jump_if(c),
+            0x2F => jump_if(!c),
+            0x30 => jump_if(self.overflow()?),
+            0x31 => jump_if(!self.overflow()?),
+            0x32 => jump_if(s),
+            0x33 => jump_if(!s),
+            0x34 => jump_if(!s && !z),
+            0x35 => jump_if(z || c),
+            0x36 => jump_if(self.overflow()? != s),
+            0x37 => jump_if(self.overflow()? != s || z),
+
+            0x38 => { self.transfer(u16::from(argument) | 256)?; 3 }
+            0x39 => { self.transfer(u16::from(argument))?; 3 }
+            0x3A => { self.transfer(u16::from(ra))?; 3 }
+            0x3B => { self.transfer(u16::from(self.ram[usize::from(argument)]))?; 4 }
+            0x3C => { self.state.out = ra; 3 }
+            0x3D => { self.state.out = self.ram[usize::from(argument)]; 4 }
+            0x3E => return self.halt(next),
+            _ => 8,
         };
         self.state.pc = next;
         self.cycles += cycles;
-        if self.state.halted {
-            Err(Stop::Halted)
-        } else {
-            Ok(())
-        }
+        Ok(())
     }
 
-    /// The result of an ALU function; the flags are taken over.
+    /// The stop after `hlt`, whose step is made.
+    fn halt(&mut self, next: u8) -> Result<(), Stop> {
+        self.state.halted = true;
+        self.state.pc = next;
+        self.cycles += 2;
+        Err(Stop::Halted)
+    }
+
+    /// Sets Rd and the flags.
     #[inline]
-    fn flagged(&mut self, (value, flags): (u8, Flags)) -> u8 {
+    fn set(&mut self, d: usize, (value, flags): (u8, Flags)) {
+        self.state.regs[d] = value;
         self.state.flags = flags;
-        value
     }
 
     /// V, unless it is unsettled.

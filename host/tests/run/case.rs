@@ -29,7 +29,7 @@ fn patterns(wanted: impl Fn(Form) -> bool) -> Vec<(u16, u16)> {
 }
 
 impl Case {
-    /// A call; one in eight has something, often much, to be refused for.
+    /// A call; one in eight is spoiled, often in many ways.
     pub fn random(random: &mut Random) -> Case {
         let mut case = Case::good(random);
         if random.once_in(8) {

@@ -62,7 +62,7 @@ impl Memory {
             stack: Guarded::new([0; BANK]),
             roll: Guarded::new([]),
         };
-        for (at, word) in (0..).zip(words) {
+        for (at, word) in (0..=255).zip(words) {
             memory.put(at, *word);
         }
         memory

@@ -74,6 +74,28 @@ fn each_run_writes_the_roll_from_its_beginning() {
 }
 
 #[test]
+fn keys_and_rolls_of_any_length() {
+    // mov R0, IN; mov IN, Ack; mov LCD, R0; jmp 0
+    let words = [[0x40, 0x00], [0x50, 0x00], [0xE8, 0x00], [0xA0, 0x00]];
+    let mut memory = Memory::with_words(&words);
+    // No byte is the one 256 or 65,536 places before.
+    let keys: Vec<u8> = (0..100_000u32).map(|at| (at % 251) as u8).collect();
+    memory.keys = Guarded::new(keys.iter().copied());
+    memory.roll = Guarded::new(vec![999; 90_000]);
+    let mut after = memory.clone();
+    let roll = after.roll.inner_mut();
+    for (word, key) in roll.iter_mut().zip(&keys[20_000..]) {
+        *word = u16::from(*key);
+    }
+    roll[80_000..].fill(0);
+    let start = State { position: 20_000, ..State::start() };
+    // 80,000 keys and 10,000 times nothing: a full roll stops the run at its next transfer.
+    let reached = State { pc: 2, position: 100_000, ..start };
+    let full = report(Stop::Full, 360_002, 90_000 * 13 + 7, reached);
+    check(&memory, 1_000_000, start, Report { words: 90_000, ..full }, &after);
+}
+
+#[test]
 fn data_goes_to_its_address_and_comes_from_it() {
     let mut memory = Memory::with_words(&[
         [0x57, 0x40], // mov [0x40], R3: 4 cycles
