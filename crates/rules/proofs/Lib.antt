@@ -1,0 +1,10 @@
+-- What admission gives, and the third demand.
+pub mod AdmittedRules
+pub mod ClassActs
+pub mod FirstBroken
+pub mod Frames
+pub mod Live
+pub mod SafeRuns
+pub mod Tests
+pub mod ThirdDemand
+pub mod Twins

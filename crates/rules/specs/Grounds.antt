@@ -1,0 +1,175 @@
+-- 01, 'Grounds, in checking order', 1 to 16: every rule as a check with its number and place, in one list; admission answers the first that
+-- is broken.
+-- Assumes nothing.
+use Prim.Native.Nat.{ℕ, zero, suc, _+_, _*_, _%_}
+use mathlib.Core.List.{List, [], _∷_, _++_}
+use mathlib.Core.Bool.{Bool, true, false, not, cond, _&&_, _||_}
+use lib.ListN.{length}
+use lib.Dec.{eqb, leb, ltb}
+use Rattle.isa.specs.declared.Class.{Class}
+use Rattle.isa.specs.declared.Class.the-variants.{Next, Jump, Branch, JumpReg, Call, Return, Push, Pop, Swap, Halt}
+use Rattle.model.specs.Run.{testsIn}
+use Rattle.rules.specs.Sheet.{Listing, word, described, marked, routine, depth, routines, entry, need, classAt}
+use Rattle.rules.specs.Successors.{Successor, successors, goesOn}
+
+-- a rule at a place, and whether it is broken there
+pub record Check : Type 0 where
+  pub number : ℕ
+  pub place : ℕ
+  pub broken : Bool
+
+abbrev pub check : ℕ → ℕ → Bool → Check
+check n p b = record { number = n; place = p; broken = b }
+
+-- "Admission answers 0, or number + 256 × place"
+unfoldable pub firstBroken : List Check → ℕ
+firstBroken [] = 0
+firstBroken (c ∷ cs) = cond (c .broken) (c .number + 256 * c .place) (firstBroken cs)
+
+-- the checks of n places from i on, lowest first
+unfoldable pub each : (ℕ → List Check) → ℕ → ℕ → List Check
+each f i zero = []
+each f i (suc n) = f i ++ each f (suc i) n
+
+-- the lowest of the n numbers from i on that passes a test, or i + n
+unfoldable pub find : (ℕ → Bool) → ℕ → ℕ → ℕ
+find f i zero = i
+find f i (suc n) = cond (f i) i (find f (suc i) n)
+
+-- the lowest routine whose entry is an address, or their number
+unfoldable pub callee : Listing → ℕ → ℕ
+callee L t = find (λ r. eqb (entry L r) t) 0 (routines L)
+
+-- ---- tests by class
+
+abbrev pub isJumpReg : Class → Bool
+isJumpReg (Next e) = false
+isJumpReg (Jump t) = false
+isJumpReg (Branch t n) = false
+isJumpReg JumpReg = true
+isJumpReg (Call t) = false
+isJumpReg Return = false
+isJumpReg (Push r) = false
+isJumpReg Pop = false
+isJumpReg (Swap r) = false
+isJumpReg Halt = false
+
+-- pop or swap
+abbrev pub takesOwn : Class → Bool
+takesOwn (Next e) = false
+takesOwn (Jump t) = false
+takesOwn (Branch t n) = false
+takesOwn JumpReg = false
+takesOwn (Call t) = false
+takesOwn Return = false
+takesOwn (Push r) = false
+takesOwn Pop = true
+takesOwn (Swap r) = true
+takesOwn Halt = false
+
+abbrev pub isReturn : Class → Bool
+isReturn (Next e) = false
+isReturn (Jump t) = false
+isReturn (Branch t n) = false
+isReturn JumpReg = false
+isReturn (Call t) = false
+isReturn Return = true
+isReturn (Push r) = false
+isReturn Pop = false
+isReturn (Swap r) = false
+isReturn Halt = false
+
+-- a test of a call's target; no other class breaks it
+abbrev pub ofCall : (ℕ → Bool) → Class → Bool
+ofCall f (Next e) = false
+ofCall f (Jump t) = false
+ofCall f (Branch t n) = false
+ofCall f JumpReg = false
+ofCall f (Call t) = f t
+ofCall f Return = false
+ofCall f (Push r) = false
+ofCall f Pop = false
+ofCall f (Swap r) = false
+ofCall f Halt = false
+
+-- ---- the rules
+
+-- 1: "The opcode or argument bank isn't 256 bytes"
+abbrev pub badBanks : Listing → Bool
+badBanks L = not (eqb (length (L .program .opcodes)) 256 && eqb (length (L .program .arguments)) 256)
+
+-- 2: "The sheet isn't 512 bytes"
+abbrev pub badSheet : Listing → Bool
+badSheet L = not (eqb (length (L .sheet)) 512)
+
+-- 3: "The routine list's length is odd, 0 or over 128 bytes"
+abbrev pub badList : Listing → Bool
+badList L = eqb (length (L .list) % 2) 1 || (eqb (length (L .list)) 0 || ltb 128 (length (L .list)))
+
+-- 4: "A word without bit 15 isn't 0"
+unfoldable pub badBlank : Listing → ℕ → Bool
+badBlank L a = not (described L a) && not (eqb (word L a) 0)
+
+-- 5: "A described word names a routine not in the list"
+unfoldable pub badRoutine : Listing → ℕ → Bool
+badRoutine L a = described L a && leb (routines L) (routine L a)
+
+-- 6: "Routine 0's entry isn't 0"
+abbrev pub badStart : Listing → Bool
+badStart L = not (eqb (entry L 0) 0)
+
+-- 7: "A routine's entry word isn't described, names another routine, has a depth above 0 or marks V"
+unfoldable pub badEntry : Listing → ℕ → Bool
+badEntry L r =
+    not (described L (entry L r))
+    || (not (eqb (routine L (entry L r)) r) || (ltb 0 (depth L (entry L r)) || marked L (entry L r)))
+
+-- 16: "A successor isn't described, is in another routine, has another depth, or marks V against the rule"
+abbrev pub badSuccessor : Listing → ℕ → Successor → Bool
+badSuccessor L a x =
+    not (described L (x .to))
+    || (not (eqb (routine L (x .to)) (routine L a))
+    || (not (eqb (depth L (x .to)) (x .deep)) || (marked L (x .to) && not (x .mark))))
+
+abbrev pub anyBad : Listing → ℕ → List Successor → Bool
+anyBad L a [] = false
+anyBad L a (x ∷ xs) = badSuccessor L a x || anyBad L a xs
+
+-- the rules 8 to 16 at an address of class k, routine r and depth d
+abbrev pub rulesAt : Listing → ℕ → Class → (r d : ℕ) → List Check
+rulesAt L a k r d =
+    -- 8: "Its depth is over its routine's need"
+    check 8 a (ltb (need L r) d)
+    -- 9: "It is `jmp Ra`"
+    ∷ check 9 a (isJumpReg k)
+    -- 10: "It is jv, jnv, jlt or jle and V isn't marked"
+    ∷ check 10 a (testsIn k && not (marked L a))
+    -- 11: "It is pop or swap at depth 0"
+    ∷ check 11 a (takesOwn k && eqb d 0)
+    -- 12: "It is ret in routine 0 or at a depth above 0"
+    ∷ check 12 a (isReturn k && (eqb r 0 || ltb 0 d))
+    -- 13: "It is address 255 and its next word is a successor"
+    ∷ check 13 a (eqb a 255 && goesOn k)
+    -- 14: "It is a call whose target is no routine's entry"
+    ∷ check 14 a (ofCall (λ t. eqb (callee L t) (routines L)) k)
+    -- 15: "It is a call and depth + 1 + the callee's need exceeds its own routine's need"
+    ∷ check 15 a (ofCall (λ t. ltb (need L r) (d + 1 + need L (callee L t))) k)
+    ∷ check 16 a (anyBad L a (successors k a d (marked L a)))
+    ∷ []
+
+-- "Then each described address, lowest first, against 8 to 16"
+unfoldable pub addressChecks : Listing → ℕ → List Check
+addressChecks L a = cond (described L a) (rulesAt L a (classAt L a) (routine L a) (depth L a)) []
+
+-- every rule, in checking order
+unfoldable pub checks : Listing → List Check
+checks L =
+    (check 1 0 (badBanks L) ∷ check 2 0 (badSheet L) ∷ check 3 0 (badList L) ∷ [])
+    ++ (each (λ a. check 4 a (badBlank L a) ∷ []) 0 256
+    ++ (each (λ a. check 5 a (badRoutine L a) ∷ []) 0 256
+    ++ ((check 6 0 (badStart L) ∷ [])
+    ++ (each (λ r. check 7 r (badEntry L r) ∷ []) 0 (routines L)
+    ++ each (addressChecks L) 0 256))))
+
+unfoldable pub admitOf : Listing → ℕ
+admitOf L = firstBroken (checks L)

@@ -1,0 +1,6 @@
+pub mod Demand
+pub mod Grounds
+pub mod RunLists
+pub mod Sheet
+pub mod Successors
+pub mod Tally
