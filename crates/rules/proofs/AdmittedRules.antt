@@ -45,12 +45,12 @@ module _ (L : Listing) where
   numbered-rules a k r d =
       (omega arith, (omega arith, (omega arith, (omega arith, (omega arith, (omega arith, (omega arith, (omega arith, (omega arith, tt)))))))))
 
-  numbered-address : (a : ℕ) → Numbered (addressChecks L a)
+  pub numbered-address : (a : ℕ) → Numbered (addressChecks L a)
   unfolding addressChecks
   numbered-address a =
       by-test (described L a) (λ q. rw (q, addressChecks) (numbered-rules a (classAt L a) (routine L a) (depth L a))) (λ q. rw (q, addressChecks) tt)
 
-  one : (n : ℕ) (b : ℕ → Bool) → 0 < n → (k : ℕ) → Numbered (check n k (b k) ∷ [])
+  pub one : (n : ℕ) (b : ℕ → Bool) → 0 < n → (k : ℕ) → Numbered (check n k (b k) ∷ [])
   one n b h k = (h, tt)
 
   abbrev blanks : List Check
@@ -69,7 +69,7 @@ module _ (L : Listing) where
   unfolding checks
   numbered-checks =
       let n7 : Numbered (entryWords ++ addresses) =
-          numbered-append entryWords addresses (numbered-each _ (one 7 (badEntry L) (omega arith)) 0 (routines L)) (numbered-each _ numbered-address 0 256) in
+      numbered-append entryWords addresses (numbered-each _ (one 7 (badEntry L) (omega arith)) 0 (routines L)) (numbered-each _ numbered-address 0 256) in
       let n6 : Numbered (check 6 0 (badStart L) ∷ (entryWords ++ addresses)) = (omega arith, n7) in
       let n5 = numbered-append names _ (numbered-each _ (one 5 (badRoutine L) (omega arith)) 0 256) n6 in
       let n4 = numbered-append blanks _ (numbered-each _ (one 4 (badBlank L) (omega arith)) 0 256) n5 in

@@ -1,5 +1,6 @@
 -- What admission gives, and the third demand.
 pub mod AdmittedRules
+pub mod Answers
 pub mod ClassActs
 pub mod FirstBroken
 pub mod Frames

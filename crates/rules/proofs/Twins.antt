@@ -95,7 +95,7 @@ module _ (L : Listing) (A : Admitted L) (bytes : Bytes (L .list)) where
       let i = instrAt (L .program) (k .state .pc) in
       let f = step-good L A bytes keys l .0 in
       let e = plan-same (k .state) (getD st (k .state .sp) 0) (getD st′ (k .state .sp) 0) (k .ram) keys i
-          (λ q. tops-same (classAt L (k .state .pc)) _ _ _ row st st′ (k .state .sp) (f .last-fits) q (l .held) (l′ .held) (l .sp-is)) in
+      (λ q. tops-same (classAt L (k .state .pc)) _ _ _ row st st′ (k .state .sp) (f .last-fits) q (l .held) (l′ .held) (l .sp-is)) in
       ap (λ (x : Plan). enactedOf x (cyclesOf i) (on k st) .core) (sym e)
 
   step-same : (keys : List ℕ) {row : List Entry} (k : Core) (st st′ : List ℕ) → Live L row (on k st) → Live L row (on k st′)
@@ -136,8 +136,8 @@ module _ (L : Listing) (A : Admitted L) (bytes : Bytes (L .list)) where
       let h′ : Good L (tally L (on k st) row) (on c (stored x st′)) = subst (λ (m : Machine). Good L (tally L (on k st) row) m) q′ (step-good L A bytes keys l′ .1) in
       let i = run-twin keys n (addressesOf x ps) c (stored x st) (stored x st′) h h′ (agree-stored x ps st st′ (good-long L A bytes g ∙ sym (good-long L A bytes g′)) a) in
       let i₁ : RunTwin (tally L (on k st) row) (addressesOf x ps) (runOf p keys n (stepOf p keys (on k st))) (runOf p keys n (stepOf p keys (on k st′))) (stepsIn keys (traceOf p keys n (stepOf p keys (on k st)))) =
-          subst (λ (m : Machine). RunTwin (tally L (on k st) row) (addressesOf x ps) (runOf p keys n m) (runOf p keys n (stepOf p keys (on k st′))) (stepsIn keys (traceOf p keys n m))) (sym q)
-          (subst (λ (m : Machine). RunTwin (tally L (on k st) row) (addressesOf x ps) (runOf p keys n (on c (stored x st))) (runOf p keys n m) (stepsIn keys (traceOf p keys n (on c (stored x st))))) (sym q′) i) in
+      subst (λ (m : Machine). RunTwin (tally L (on k st) row) (addressesOf x ps) (runOf p keys n m) (runOf p keys n (stepOf p keys (on k st′))) (stepsIn keys (traceOf p keys n m))) (sym q)
+      (subst (λ (m : Machine). RunTwin (tally L (on k st) row) (addressesOf x ps) (runOf p keys n (on c (stored x st))) (runOf p keys n m) (stepsIn keys (traceOf p keys n (on c (stored x st))))) (sym q′) i) in
       rw (run-goes p keys n (on k st) e, run-goes p keys n (on k st′) e, trace-goes p keys n (on k st) e)
       (record { stop-same = i₁ .stop-same; core-is = i₁ .core-is; agree = i₁ .agree; good = i₁ .good; good′ = i₁ .good′ }))
 
@@ -175,16 +175,16 @@ module _ (L : Listing) (A : Admitted L) (bytes : Bytes (L .list)) where
       let i = run-twin (c .keys) (c .budget) ps (callMachine c w .core) (w .stack) st (h .1) (h′ .1) a in
       let es = stepsIn (c .keys) (traceOf (L .program) (c .keys) (c .budget) (callMachine c w)) in
       let q : storedBy L (beginEvents (c .begin) ++ es) ps ≡ storedBy L es ps =
-          storedBy-append ps (beginEvents (c .begin)) es ∙ ap (storedBy L es) (begin-stores ps (c .begin)) in
+      storedBy-append ps (beginEvents (c .begin)) es ∙ ap (storedBy L es) (begin-stores ps (c .begin)) in
       record {
         alike =
-          record {
-            answer = rw (i .stop-same, i .core-is);
-            state = ap (λ (k : Core). k .state) (i .core-is);
-            ram = ap (λ (k : Core). k .ram) (i .core-is);
-            roll = ap (λ (k : Core). k .roll) (i .core-is);
-            stack = rw q (i .agree);
-          };
+            record {
+              answer = rw (i .stop-same, i .core-is);
+              state = ap (λ (k : Core). k .state) (i .core-is);
+              ram = ap (λ (k : Core). k .ram) (i .core-is);
+              roll = ap (λ (k : Core). k .roll) (i .core-is);
+              stack = rw q (i .agree);
+            };
         same-state = ap (λ (k : Core). k .state) (i .core-is);
         same-ram = ap (λ (k : Core). k .ram) (i .core-is);
         agree = rw q (i .agree);
@@ -228,6 +228,6 @@ module _ (L : Listing) (A : Admitted L) (bytes : Bytes (L .list)) where
   list-twin (c ∷ cs) row ps w w′ p q g g′ a =
       let v : with-stack w (w′ .stack) ≡ w′ = rw (p, q) in
       let h : CallTwin row ps w w′ (outcomeOf (L .program) c w) (outcomeOf (L .program) c w′) (callEvents (L .program) c w) =
-          subst (λ (u : World). CallTwin row ps w u (outcomeOf (L .program) c w) (outcomeOf (L .program) c u) (callEvents (L .program) c w)) v
-          (call-twin row ps c w (w′ .stack) (c .lends) g (rw v g′) a) in
+      subst (λ (u : World). CallTwin row ps w u (outcomeOf (L .program) c w) (outcomeOf (L .program) c u) (callEvents (L .program) c w)) v
+      (call-twin row ps c w (w′ .stack) (c .lends) g (rw v g′) a) in
       (h .alike, list-twin cs _ _ (leftBy (outcomeOf (L .program) c w) w) (leftBy (outcomeOf (L .program) c w′) w′) (h .same-state) (h .same-ram) (h .good) (h .good′) (h .agree))

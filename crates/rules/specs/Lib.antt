@@ -1,6 +1,7 @@
 pub mod Demand
 pub mod Grounds
 pub mod RunLists
+pub mod Scans
 pub mod Sheet
 pub mod Successors
 pub mod Tally

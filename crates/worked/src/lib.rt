@@ -1,0 +1,1 @@
+// Listings worked out by hand: what admission answers to each, computed in `proofs/`.
