@@ -53,17 +53,17 @@ module _ (s : State) (top : ℕ) (ram keys : List ℕ) where
   abbrev pub key : ℕ
   key = getD keys (s .position) 0
 
-  abbrev pub zero : Bool
-  zero = s .flags .z
+  abbrev pub zFlag : Bool
+  zFlag = s .flags .z
 
-  abbrev pub carry : Bool
-  carry = s .flags .c
+  abbrev pub cFlag : Bool
+  cFlag = s .flags .c
 
-  abbrev pub sign : Bool
-  sign = s .flags .s
+  abbrev pub sFlag : Bool
+  sFlag = s .flags .s
 
-  abbrev pub overflow : Bool
-  overflow = valueOf (s .flags .v)
+  abbrev pub vFlag : Bool
+  vFlag = valueOf (s .flags .v)
 
   -- a result of the ALU: the flags, and the register
   abbrev pub flagged : Computed → Plan
@@ -112,17 +112,17 @@ module _ (s : State) (top : ℕ) (ram keys : List ℕ) where
 
   abbrev pub planOf : Instr → Plan
   -- ALU* Rd, Ra, Rb: Rd = ALU(Ra, Rb), flags
-  planOf (Alu d a f b) = computed d (aluOf f (reg a) (reg b) carry)
+  planOf (Alu d a f b) = computed d (aluOf f (reg a) (reg b) cFlag)
   -- add Rd, Ra, Imm8: Rd = Ra + Imm8, flags
-  planOf (AddImm d a i) = computed d (aluOf 0b0001 (reg a) i carry)
+  planOf (AddImm d a i) = computed d (aluOf 0b0001 (reg a) i cFlag)
   -- ALU* NONE, Ra, Rb: ALU(Ra, Rb), flags
-  planOf (AluNone a f b) = flagged (aluOf f (reg a) (reg b) carry)
+  planOf (AluNone a f b) = flagged (aluOf f (reg a) (reg b) cFlag)
   -- cmp Ra, Imm8: Ra - Imm8, flags
-  planOf (CmpImm a i) = flagged (aluOf 0b0010 (reg a) i carry)
+  planOf (CmpImm a i) = flagged (aluOf 0b0010 (reg a) i cFlag)
   -- mask Ra, Imm8: Ra & Imm8, flags
-  planOf (MaskImm a i) = flagged (aluOf 0b0101 (reg a) i carry)
+  planOf (MaskImm a i) = flagged (aluOf 0b0101 (reg a) i cFlag)
   -- mask IN, Imm8: IN_Reg & Imm8, flags
-  planOf (MaskIn i) = flagged (aluOf 0b0101 key i carry)
+  planOf (MaskIn i) = flagged (aluOf 0b0101 key i cFlag)
   -- mov Rd, Imm8: Rd = Imm8
   planOf (MovImm d i) = moved d i
   -- mov Rd, IN: Rd = IN_Reg
@@ -152,29 +152,29 @@ module _ (s : State) (top : ℕ) (ram keys : List ℕ) where
   -- ret: PC <- Stack
   planOf Ret = returned
   -- jz Addr8: if(Z) PC = Addr8
-  planOf (Jz i) = jumped zero i
+  planOf (Jz i) = jumped zFlag i
   -- jnz Addr8: if(!Z) PC = Addr8
-  planOf (Jnz i) = jumped (not zero) i
+  planOf (Jnz i) = jumped (not zFlag) i
   -- jc Addr8: if(C) PC = Addr8
-  planOf (Jc i) = jumped carry i
+  planOf (Jc i) = jumped cFlag i
   -- jnc Addr8: 01: "jnc tests C clear"
-  planOf (Jnc i) = jumped (not carry) i
+  planOf (Jnc i) = jumped (not cFlag) i
   -- jv Addr8: if(V) PC = Addr8
-  planOf (Jv i) = jumped overflow i
+  planOf (Jv i) = jumped vFlag i
   -- jnv Addr8: 01: "jnv V clear"
-  planOf (Jnv i) = jumped (not overflow) i
+  planOf (Jnv i) = jumped (not vFlag) i
   -- jlz Addr8: 01: "jlz bit 7 set"
-  planOf (Jlz i) = jumped sign i
+  planOf (Jlz i) = jumped sFlag i
   -- jp Addr8: 01: "jp bit 7 clear"
-  planOf (Jp i) = jumped (not sign) i
+  planOf (Jp i) = jumped (not sFlag) i
   -- jgz Addr8: if(!S & !Z) PC = Addr8
-  planOf (Jgz i) = jumped (not sign && not zero) i
+  planOf (Jgz i) = jumped (not sFlag && not zFlag) i
   -- jleu Addr8: Z or C
-  planOf (Jleu i) = jumped (zero || carry) i
+  planOf (Jleu i) = jumped (zFlag || cFlag) i
   -- jlt Addr8: V xor S
-  planOf (Jlt i) = jumped (differ overflow sign) i
+  planOf (Jlt i) = jumped (differ vFlag sFlag) i
   -- jle Addr8: if((V^S) | Z) PC = Addr8
-  planOf (Jle i) = jumped (differ overflow sign || zero) i
+  planOf (Jle i) = jumped (differ vFlag sFlag || zFlag) i
   -- mov LCDcmd, Imm8: LCD[Command] <- Imm8
   planOf (LcdCmd i) = sent (256 + i)
   -- mov LCD, Imm8: LCD[Data] <- Imm8
