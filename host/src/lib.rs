@@ -105,28 +105,7 @@ pub fn facts(fields: Fields) -> Facts {
 /// refusal leaves everything lent as it was: first a bank that isn't of 256 bytes, then a key
 /// position past the end of the keys, then a budget over [`MOST_STEPS`].
 pub fn run(lent: Lent<'_>, budget: u32, start: State) -> Result<Report, RunRefusal> {
-    let Lent { opcodes, arguments, keys, ram, stack, roll } = lent;
-    // SAFETY: each pointer comes with the length of the slice behind it, and the slices written
-    // to are borrowed for writing during the call, so they overlap nothing.
-    let answer = unsafe {
-        raw::run::cesca_run(
-            opcodes.as_ptr(),
-            opcodes.len(),
-            arguments.as_ptr(),
-            arguments.len(),
-            keys.as_ptr(),
-            keys.len(),
-            ram.as_mut_ptr(),
-            ram.len(),
-            stack.as_mut_ptr(),
-            stack.len(),
-            roll.as_mut_ptr(),
-            roll.len(),
-            budget,
-            start.into(),
-        )
-    };
-    answer.outcome(start)
+    raw::run::call(lent, budget, start.into()).outcome(start)
 }
 
 /// The time of so many cycles at a clock in Hz, in tenths of a second, or why none is told.

@@ -1,7 +1,7 @@
 //! The exports for runs and running times, and their answers read into this crate's words.
 
 use super::{overflow, unknown};
-use crate::{Flags, Overflow, Report, RunRefusal, State, Stop, TimeRefusal};
+use crate::{Flags, Lent, Overflow, Report, RunRefusal, State, Stop, TimeRefusal};
 
 /// A state, V as a number.
 #[repr(C)]
@@ -38,7 +38,7 @@ pub struct TimeNumbers {
 }
 
 extern "C" {
-    pub fn cesca_run(
+    fn cesca_run(
         opcodes: *const u8,
         opcodes_len: usize,
         arguments: *const u8,
@@ -55,6 +55,31 @@ extern "C" {
         start: StateNumbers,
     ) -> RunNumbers;
     pub fn cesca_running_time(cycles: u32, clock: u32) -> TimeNumbers;
+}
+
+/// The library's answer on a run; V may be lent as any number.
+pub fn call(lent: Lent<'_>, budget: u32, start: StateNumbers) -> RunNumbers {
+    let Lent { opcodes, arguments, keys, ram, stack, roll } = lent;
+    // SAFETY: each pointer comes with the length of the slice behind it, and the slices written
+    // to are borrowed for writing during the call, so they overlap nothing.
+    unsafe {
+        cesca_run(
+            opcodes.as_ptr(),
+            opcodes.len(),
+            arguments.as_ptr(),
+            arguments.len(),
+            keys.as_ptr(),
+            keys.len(),
+            ram.as_mut_ptr(),
+            ram.len(),
+            stack.as_mut_ptr(),
+            stack.len(),
+            roll.as_mut_ptr(),
+            roll.len(),
+            budget,
+            start,
+        )
+    }
 }
 
 impl RunNumbers {

@@ -6,26 +6,15 @@ use super::*;
 fn run(word: [u8; 2], budget: u32, start: StateNumbers) -> RunNumbers {
     let [opcodes, arguments] = word.map(|byte| [byte; 256]);
     let (mut ram, mut stack) = ([0u8; 256], [0u8; 256]);
-    let (keys, roll) = (<&[u8]>::default(), <&mut [u16]>::default());
-    // SAFETY: each pointer comes with the length of the memory behind it, all of it apart.
-    unsafe {
-        cesca_run(
-            opcodes.as_ptr(),
-            opcodes.len(),
-            arguments.as_ptr(),
-            arguments.len(),
-            keys.as_ptr(),
-            keys.len(),
-            ram.as_mut_ptr(),
-            ram.len(),
-            stack.as_mut_ptr(),
-            stack.len(),
-            roll.as_mut_ptr(),
-            roll.len(),
-            budget,
-            start,
-        )
-    }
+    let lent = Lent {
+        opcodes: &opcodes,
+        arguments: &arguments,
+        keys: &[],
+        ram: &mut ram,
+        stack: &mut stack,
+        roll: &mut [],
+    };
+    call(lent, budget, start)
 }
 
 /// The start state with this number for V.
