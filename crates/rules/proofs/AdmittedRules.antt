@@ -15,10 +15,11 @@ use Rattle.isa.specs.declared.Class.the-variants as class
 use Rattle.model.specs.Run.{testsIn}
 use Rattle.model.proofs.Runs.{by-test}
 use Rattle.slices.proofs.Bools.{neither}
+use Rattle.rules.specs.FirstDemand.{NoneBroken}
 use Rattle.rules.specs.Grounds.{Check, check, firstBroken, each, find, callee, isJumpReg, takesOwn, isReturn, ofCall, badBanks, badSheet, badList, badBlank, badRoutine, badStart, badEntry, badSuccessor, anyBad, rulesAt, addressChecks, checks, admitOf}
 use Rattle.rules.specs.Sheet.{Listing, word, described, marked, routine, depth, routines, entry, need, classAt}
 use Rattle.rules.specs.Successors.{Successor, successors}
-use Rattle.rules.proofs.FirstBroken.{NoneBroken, Numbered, numbered-append, numbered-each, none-append, none-each, none-broken}
+use Rattle.rules.proofs.FirstBroken.{Numbered, numbered-append, numbered-each, none-append, none-each, none-broken}
 use Rattle.rules.proofs.Tests.{absurd-bool, and-false}
 
 -- ---- what is found passes the test
@@ -41,14 +42,14 @@ some-routines n h k = omega arith
 module _ (L : Listing) where
   -- ---- every check has a number
 
-  numbered-rules : (a : ℕ) (k : Class) (r d : ℕ) → Numbered (rulesAt L a k r d)
-  numbered-rules a k r d =
+  numbered-rules : (a : ℕ) (k : Class) (r d : ℕ) (v : Bool) → Numbered (rulesAt L a k r d v)
+  numbered-rules a k r d v =
       (omega arith, (omega arith, (omega arith, (omega arith, (omega arith, (omega arith, (omega arith, (omega arith, (omega arith, tt)))))))))
 
   pub numbered-address : (a : ℕ) → Numbered (addressChecks L a)
   unfolding addressChecks
   numbered-address a =
-      by-test (described L a) (λ q. rw (q, addressChecks) (numbered-rules a (classAt L a) (routine L a) (depth L a))) (λ q. rw (q, addressChecks) tt)
+      by-test (described L a) (λ q. rw (q, addressChecks) (numbered-rules a (classAt L a) (routine L a) (depth L a) (marked L a))) (λ q. rw (q, addressChecks) tt)
 
   pub one : (n : ℕ) (b : ℕ → Bool) → 0 < n → (k : ℕ) → Numbered (check n k (b k) ∷ [])
   one n b h k = (h, tt)
@@ -88,7 +89,7 @@ module _ (L : Listing) where
   FitsAll a [] = Unit {0}
   FitsAll a (x ∷ xs) = Fits a x × FitsAll a xs
 
-  fits-one : (a : ℕ) (x : Successor) → badSuccessor L a x ≡ false → Fits a x
+  fits-one : (a : ℕ) (x : Successor) → badSuccessor L (routine L a) x ≡ false → Fits a x
   fits-one a x e =
       let f = neither (not (described L (x .to))) _ e in
       let g = neither (not (eqb (routine L (x .to)) (routine L a))) _ (f .1) in
@@ -100,9 +101,9 @@ module _ (L : Listing) where
         may-mark = λ q. not-false _ (and-false (marked L (x .to)) (not (x .mark)) (d .1) q);
       }
 
-  fits-all : (a : ℕ) (xs : List Successor) → anyBad L a xs ≡ false → FitsAll a xs
+  fits-all : (a : ℕ) (xs : List Successor) → anyBad L (routine L a) xs ≡ false → FitsAll a xs
   fits-all a [] e = tt
-  fits-all a (x ∷ xs) e = let h = neither (badSuccessor L a x) (anyBad L a xs) e in (fits-one a x (h .0), fits-all a xs (h .1))
+  fits-all a (x ∷ xs) e = let h = neither (badSuccessor L (routine L a) x) (anyBad L (routine L a) xs) e in (fits-one a x (h .0), fits-all a xs (h .1))
 
   -- what 14 and 15 give of a call at a of the target t
   pub record CallFits (a t : ℕ) : Type 0 where
@@ -129,7 +130,7 @@ module _ (L : Listing) where
     pub calls : (t : ℕ) → k ≡ class.Call t → CallFits a t
     pub fits : FitsAll a (successors k a (depth L a) (marked L a))
 
-  rules-of : (a : ℕ) (k : Class) → NoneBroken (rulesAt L a k (routine L a) (depth L a)) → Rules a k
+  rules-of : (a : ℕ) (k : Class) → NoneBroken (rulesAt L a k (routine L a) (depth L a) (marked L a)) → Rules a k
   rules-of a k (g8, (g9, (g10, (g11, (g12, (g13, (g14, (g15, (g16, n))))))))) =
       record {
         deep = ltb-false (need L (routine L a)) (depth L a) g8;
@@ -156,7 +157,7 @@ module _ (L : Listing) where
     pub at-top : depth L (entry L r) ≡ 0
     pub unmarked : marked L (entry L r) ≡ false
 
-  entry-of : (r : ℕ) → badEntry L r ≡ false → EntryFits r
+  pub entry-of : (r : ℕ) → badEntry L r ≡ false → EntryFits r
   unfolding badEntry
   entry-of r e =
       let a = neither (not (described L (entry L r))) _ e in

@@ -7,25 +7,22 @@ use mathlib.Core.Path.{_≡_, refl, sym, ap, ap₂, _∙_}
 use mathlib.Core.List.{List, [], _∷_, _++_}
 use mathlib.Core.Bool.{true, false}
 use Rattle.model.proofs.Runs.{by-test}
+use Rattle.rules.specs.FirstDemand.{NoneBroken, FirstDemand}
 use Rattle.rules.specs.Grounds.{Check, check, firstBroken, each, badBanks, badSheet, badList, badBlank, badRoutine, badStart, badEntry, addressChecks, checks, admitOf}
 use Rattle.rules.specs.Scans.{orElse, scanOf, sizesOf, scannedOf}
 use Rattle.rules.specs.Sheet.{Listing, routines}
 use Rattle.rules.proofs.AdmittedRules.{numbered-checks, numbered-address, one}
-use Rattle.rules.proofs.FirstBroken.{NoneBroken, Numbered, numbered-append, numbered-each, none-broken, all-hold, Named, named}
+use Rattle.rules.proofs.FirstBroken.{Numbered, numbered-append, numbered-each, none-each, none-broken, all-hold, named}
 
 -- ---- 0, or the first broken rule
 
-pub zero-holds : (L : Listing) → admitOf L ≡ 0 → NoneBroken (checks L)
+pub first-demand : (L : Listing) → FirstDemand L (admitOf L)
 unfolding admitOf
-zero-holds L e = none-broken (checks L) (numbered-checks L) e
-
-pub holds-zero : (L : Listing) → NoneBroken (checks L) → admitOf L ≡ 0
-unfolding admitOf
-holds-zero L h = all-hold (checks L) h
-
-pub refused-first : (L : Listing) → (admitOf L ≡ 0 → ⊥) → Named (checks L) (admitOf L)
-unfolding admitOf
-refused-first L h = named (checks L) h
+first-demand L =
+    record {
+      accepts = all-hold (checks L);
+      refuses = λ broken. named (checks L) (λ e. broken (none-broken (checks L) (numbered-checks L) e));
+    }
 
 -- ---- the scans
 
@@ -46,6 +43,11 @@ scan-each : (f : ℕ → List Check) → ((k : ℕ) → Numbered (f k)) → (i n
 unfolding scanOf each firstBroken
 scan-each f p i zero = refl
 scan-each f p i (suc n) = ap (orElse (firstBroken (f i))) (scan-each f p (suc i) n) ∙ first-append (f i) (each f (suc i) n) (p i)
+
+-- a scan that answers 0 found no place broken
+pub scan-clear : (f : ℕ → List Check) → ((k : ℕ) → Numbered (f k)) → (n : ℕ) → scanOf f 0 n ≡ 0 → (k : ℕ) → k < n → NoneBroken (f k)
+scan-clear f p n e k h =
+    none-each f n 0 (none-broken (each f 0 n) (numbered-each f p 0 n) (sym (scan-each f p 0 n) ∙ e)) k (omega arith) (omega arith)
 
 pub scans-agree : (L : Listing) → scannedOf L ≡ admitOf L
 unfolding scannedOf admitOf checks

@@ -9,12 +9,8 @@ use native.Mathlib.Omega.{arith}
 use lib.Dec.{eqb}
 use borrow.Author.Tests.{eqb-true, eqb-false}
 use Rattle.model.proofs.Runs.{by-test}
+use Rattle.rules.specs.FirstDemand.{NoneBroken, Named}
 use Rattle.rules.specs.Grounds.{Check, firstBroken, each}
-
--- no check of a list is broken
-abbrev pub NoneBroken : List Check → Type 0
-NoneBroken [] = Unit {0}
-NoneBroken (c ∷ cs) = (c .broken ≡ false) × NoneBroken cs
 
 -- each has a number
 abbrev pub Numbered : List Check → Type 0
@@ -57,16 +53,6 @@ pub all-hold : (cs : List Check) → NoneBroken cs → firstBroken cs ≡ 0
 unfolding firstBroken
 all-hold [] p = refl
 all-hold (c ∷ cs) p = rw (p .0, firstBroken) (all-hold cs (p .1))
-
--- the broken check that an answer names: all before it hold
-pub record Named (cs : List Check) (answer : ℕ) : Type 0 where
-  pub before : List Check
-  pub this : Check
-  pub after : List Check
-  pub split : cs ≡ before ++ (this ∷ after)
-  pub hold : NoneBroken before
-  pub breaks : this .broken ≡ true
-  pub names : answer ≡ this .number + 256 * this .place
 
 pub named : (cs : List Check) → (firstBroken cs ≡ 0 → ⊥) → Named cs (firstBroken cs)
 unfolding firstBroken

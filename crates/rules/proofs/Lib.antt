@@ -6,6 +6,7 @@ pub mod FirstBroken
 pub mod Frames
 pub mod Live
 pub mod SafeRuns
+pub mod Scanning
 pub mod Tests
 pub mod ThirdDemand
 pub mod Twins

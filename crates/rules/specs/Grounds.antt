@@ -125,25 +125,26 @@ badEntry L r =
     || (not (eqb (routine L (entry L r)) r) || (ltb 0 (depth L (entry L r)) || marked L (entry L r)))
 
 -- 16: "A successor isn't described, is in another routine, has another depth, or marks V against the rule"
-abbrev pub badSuccessor : Listing → ℕ → Successor → Bool
-badSuccessor L a x =
+-- (in a routine other than r)
+abbrev pub badSuccessor : Listing → (r : ℕ) → Successor → Bool
+badSuccessor L r x =
     not (described L (x .to))
-    || (not (eqb (routine L (x .to)) (routine L a))
+    || (not (eqb (routine L (x .to)) r)
     || (not (eqb (depth L (x .to)) (x .deep)) || (marked L (x .to) && not (x .mark))))
 
-abbrev pub anyBad : Listing → ℕ → List Successor → Bool
-anyBad L a [] = false
-anyBad L a (x ∷ xs) = badSuccessor L a x || anyBad L a xs
+abbrev pub anyBad : Listing → (r : ℕ) → List Successor → Bool
+anyBad L r [] = false
+anyBad L r (x ∷ xs) = badSuccessor L r x || anyBad L r xs
 
--- the rules 8 to 16 at an address of class k, routine r and depth d
-abbrev pub rulesAt : Listing → ℕ → Class → (r d : ℕ) → List Check
-rulesAt L a k r d =
+-- the rules 8 to 16 at an address a of class k, in routine r, at depth d, with V marked or not
+abbrev pub rulesAt : Listing → (a : ℕ) → Class → (r d : ℕ) → Bool → List Check
+rulesAt L a k r d v =
     -- 8: "Its depth is over its routine's need"
     check 8 a (ltb (need L r) d)
     -- 9: "It is `jmp Ra`"
     ∷ check 9 a (isJumpReg k)
     -- 10: "It is jv, jnv, jlt or jle and V isn't marked"
-    ∷ check 10 a (testsIn k && not (marked L a))
+    ∷ check 10 a (testsIn k && not v)
     -- 11: "It is pop or swap at depth 0"
     ∷ check 11 a (takesOwn k && eqb d 0)
     -- 12: "It is ret in routine 0 or at a depth above 0"
@@ -154,12 +155,12 @@ rulesAt L a k r d =
     ∷ check 14 a (ofCall (λ t. eqb (callee L t) (routines L)) k)
     -- 15: "It is a call and depth + 1 + the callee's need exceeds its own routine's need"
     ∷ check 15 a (ofCall (λ t. ltb (need L r) (d + 1 + need L (callee L t))) k)
-    ∷ check 16 a (anyBad L a (successors k a d (marked L a)))
+    ∷ check 16 a (anyBad L r (successors k a d v))
     ∷ []
 
 -- "Then each described address, lowest first, against 8 to 16"
 unfoldable pub addressChecks : Listing → ℕ → List Check
-addressChecks L a = cond (described L a) (rulesAt L a (classAt L a) (routine L a) (depth L a)) []
+addressChecks L a = cond (described L a) (rulesAt L a (classAt L a) (routine L a) (depth L a) (marked L a)) []
 
 -- every rule, in checking order
 unfoldable pub checks : Listing → List Check

@@ -1,4 +1,5 @@
 pub mod Demand
+pub mod FirstDemand
 pub mod Grounds
 pub mod RunLists
 pub mod Scans

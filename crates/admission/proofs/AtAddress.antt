@@ -1,0 +1,56 @@
+-- The rules 8 to 16 at an address, from its word and the class of its instruction.
+-- Assumes nothing.
+use Prim.Native.Nat.{ℕ, _+_, _*_}
+use mathlib.Core.Path.{_≡_, refl, sym, ap, _∙_}
+use mathlib.Core.List.{List, [], _∷_}
+use mathlib.Core.Bool.{Bool, true, false, cond, _||_}
+use lib.ListN.{getD}
+use lib.Dec.{ltb}
+use Rattle.isa.specs.Decode.{decodeOf}
+use Rattle.isa.specs.Facts.{classOf}
+use Rattle.isa.specs.declared.Class.{Class}
+use Rattle.model.specs.Step.{instrAt}
+use Rattle.rules.specs.Grounds.{firstBroken, find, callee, badSuccessor, anyBad, rulesAt, addressChecks}
+use Rattle.rules.specs.Sheet.{listing, word, described, marked, routine, depth, routines, entry, need, classAt}
+use Rattle.rules.specs.Successors.{Successor, successors}
+use Rattle.admission.specs.Parts.{drawnBy, classChecks}
+use Rattle.admission.specs.Words.{wordOf}
+
+module _ (o g s l : List ℕ) (a : ℕ) where
+  pub passed-over : wordOf s a .described ≡ false → 0 ≡ firstBroken (addressChecks (listing o g s l) a)
+  unfolding firstBroken addressChecks described word wordOf
+  passed-over e = rw (e, firstBroken)
+
+  -- the rules look at the banks by the class alone
+  any-aside : (r : ℕ) (xs : List Successor) → anyBad (listing o g s l) r xs ≡ anyBad (drawnBy s l) r xs
+  unfolding described word marked routine depth
+  any-aside r [] = refl
+  any-aside r (x ∷ xs) = ap (λ (b : Bool). badSuccessor (drawnBy s l) r x || b) (any-aside r xs)
+
+  banks-aside : (k : Class) (r d : ℕ) (v : Bool) → firstBroken (rulesAt (listing o g s l) a k r d v) ≡ firstBroken (rulesAt (drawnBy s l) a k r d v)
+  unfolding firstBroken callee routines entry need
+  banks-aside k r d v = rw (any-aside r (successors k a d v))
+
+  -- 8, and what is left of the rules
+  split : (k : Class) (r d : ℕ) (v : Bool)
+      → cond (ltb (getD l (2 * r + 1) 0) d) (8 + 256 * a) (firstBroken (classChecks (drawnBy s l) a k r d v))
+      ≡ firstBroken (rulesAt (drawnBy s l) a k r d v)
+  unfolding firstBroken need
+  split k r d v = refl
+
+  opened : (k : Class) → described (listing o g s l) a ≡ true → k ≡ classAt (listing o g s l) a
+      → firstBroken (rulesAt (listing o g s l) a k (routine (listing o g s l) a) (depth (listing o g s l) a) (marked (listing o g s l) a))
+      ≡ firstBroken (addressChecks (listing o g s l) a)
+  unfolding addressChecks
+  opened k e q = rw (e, q)
+
+  pub judged : (k : Class)
+      → wordOf s a .described ≡ true
+      → k ≡ classOf (decodeOf (getD o a 0) (getD g a 0))
+      → cond (ltb (getD l (2 * wordOf s a .routine + 1) 0) (wordOf s a .depth)) (8 + 256 * a)
+      (firstBroken (classChecks (drawnBy s l) a k (wordOf s a .routine) (wordOf s a .depth) (wordOf s a .marked)))
+      ≡ firstBroken (addressChecks (listing o g s l) a)
+  unfolding described word marked routine depth wordOf instrAt
+  judged k e q =
+      let w = wordOf s a in
+      split k (w .routine) (w .depth) (w .marked) ∙ sym (banks-aside k (w .routine) (w .depth) (w .marked)) ∙ opened k e q

@@ -1,0 +1,4 @@
+pub mod AtAddress
+pub mod Callees
+pub mod ClassGrounds
+pub mod Promised

@@ -1,0 +1,13 @@
+-- The test of 16 on the word.
+-- Assumes nothing.
+use borrow.Author.Needs.{needs}
+use Rattle.admission.proofs.grounds.bad_successor.Statement.{statement}
+use Rattle.admission.proofs.grounds.bad_successor.Tie as tie
+
+pub bad-successor-spec : {M : Type 1} → statement M
+bad-successor-spec =
+    tie.close
+    (tie.spec
+    (λ c κs. search needs)
+    (λ c κs. search needs)
+    (λ c. rw (c .before .wide .ensures, c .before .before .before .before .word-at .ensures)))

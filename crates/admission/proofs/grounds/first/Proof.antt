@@ -1,0 +1,14 @@
+-- The number and place, or the rest.
+-- Assumes nothing.
+use borrow.Author.Needs.{needs}
+use Rattle.admission.proofs.grounds.first.Statement.{statement}
+use Rattle.admission.proofs.grounds.first.Tie as tie
+
+pub first-spec : {M : Type 1} → statement M
+first-spec =
+    tie.close
+    (tie.spec
+    (λ c. search needs)
+    (λ c. search needs)
+    (λ c. rw (c .if1 .taken))
+    (λ c. search needs))

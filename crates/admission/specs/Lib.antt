@@ -1,0 +1,4 @@
+pub mod Admission
+pub mod Parts
+pub mod Tests
+pub mod Words
