@@ -1,0 +1,5 @@
+-- Laws that belong to no one function.
+pub mod Decimal
+pub mod DeskTexts
+pub mod Pages
+pub mod Printed

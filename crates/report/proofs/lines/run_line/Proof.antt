@@ -1,0 +1,45 @@
+-- The stop's word, the four numbers behind their texts, then the line feed.
+-- Assumes nothing.
+use borrow.Author.Needs.{needs}
+use Rattle.report.specs.Lines.{runLine}
+use Rattle.report.specs.Page.{page}
+use Rattle.report.proofs.Pages.{text-behind, byte-behind}
+use Rattle.report.proofs.lines.run_line.Statement.{statement}
+use Rattle.report.proofs.lines.run_line.Tie as tie
+
+returns : tie.Need-returns
+unfolding runLine
+returns c =
+    let after-sp = c .before .before .before .before .before .before in
+    let after-output = after-sp .before .before .before .before .before in
+    let after-cycles = after-output .before .before .before .before .before in
+    let after-steps = after-cycles .before .before .before .before .before in
+    let after-stop = after-steps .before .before .before .before .before in
+    let a = after-stop .before .before .before .args in
+    let p = page (a .out .now) (a .at) in
+    byte-behind _ 10 p
+    (text-behind _ _ p
+    (text-behind _ _ p
+    (text-behind _ _ p
+    (text-behind _ _ p (after-stop .write-stop .ensures) (after-steps .write-numbered .ensures))
+    (after-cycles .write-numbered2 .ensures))
+    (after-output .write-numbered3 .ensures))
+    (after-sp .write-numbered4 .ensures))
+    (c .before .before .put .ensures)
+
+pub run-line-spec : {M : Type 1} → statement M
+run-line-spec =
+    tie.close
+    (tie.spec
+    (λ c κs. search needs)
+    (λ c. search needs)
+    (λ c κs. search needs)
+    (λ c. search needs)
+    (λ c κs. search needs)
+    (λ c. search needs)
+    (λ c κs. search needs)
+    (λ c. search needs)
+    (λ c κs. search needs)
+    (λ c κs. search needs)
+    (λ c. search needs)
+    returns)

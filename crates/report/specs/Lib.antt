@@ -1,0 +1,3 @@
+pub mod Desk
+pub mod Lines
+pub mod Page

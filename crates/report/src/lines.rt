@@ -1,0 +1,65 @@
+// The lines that the desk prints: one for a refused listing, two for an admitted one.
+use super::put;
+use super::write;
+use super::write_decimal;
+use model::Stop;
+ghost use mathlib.Core.Path.{_≡_};
+ghost use Rattle.report.specs.Lines.{numbered, refusedLine, admittedLine, stopWord, runLine};
+ghost use Rattle.report.specs.Page.{page, writeOf};
+
+// A text and then a number are written from a place on; the place after them.
+fn write_numbered(out: &mut [u8], at: usize, text: &[u8], n: u32) -> usize
+    ensures { λ r. ⌜ page (now (out .exit)) r ≡ writeOf (numbered (now (text .entry)) n) (page (now (out .entry)) at) ⌝ }
+{
+    let next = write(out, at, text);
+    write_decimal(out, next, n)
+}
+
+// The line of a refused listing is written from a place on; the place after it.
+pub fn refused_line(out: &mut [u8], at: usize, number: u32, place: u32) -> usize
+    ensures { λ r. ⌜ page (now (out .exit)) r ≡ writeOf (refusedLine number place) (page (now (out .entry)) at) ⌝ }
+{
+    let after_number = write_numbered(out, at, b"refused ", number);
+    let after_place = write_numbered(out, after_number, b" at ", place);
+    put(out, after_place, b'\n')
+}
+
+// The first line of an admitted listing is written from a place on; the place after it.
+pub fn admitted_line(out: &mut [u8], at: usize, need: u8) -> usize
+    ensures { λ r. ⌜ page (now (out .exit)) r ≡ writeOf (admittedLine need) (page (now (out .entry)) at) ⌝ }
+{
+    let after_need = write_numbered(out, at, b"admitted need ", need as u32);
+    put(out, after_need, b'\n')
+}
+
+// A stop's word is written from a place on; the place after it.
+fn write_stop(out: &mut [u8], at: usize, stop: Stop) -> usize
+    ensures { λ r. ⌜ page (now (out .exit)) r ≡ writeOf (stopWord stop) (page (now (out .entry)) at) ⌝ }
+{
+    match stop {
+        Stop::Halted => write(out, at, b"halted"),
+        Stop::Spent => write(out, at, b"spent"),
+        Stop::Unsettled => write(out, at, b"unsettled"),
+        Stop::Full => write(out, at, b"full"),
+    }
+}
+
+// The line of an ended run is written from a place on; the place after it.
+pub fn run_line(
+    out: &mut [u8],
+    at: usize,
+    stop: Stop,
+    steps: u32,
+    cycles: u32,
+    output: u8,
+    sp: u8,
+) -> usize
+    ensures { λ r. ⌜ page (now (out .exit)) r ≡ writeOf (runLine stop steps cycles output sp) (page (now (out .entry)) at) ⌝ }
+{
+    let after_stop = write_stop(out, at, stop);
+    let after_steps = write_numbered(out, after_stop, b" steps ", steps);
+    let after_cycles = write_numbered(out, after_steps, b" cycles ", cycles);
+    let after_output = write_numbered(out, after_cycles, b" out ", output as u32);
+    let after_sp = write_numbered(out, after_output, b" sp ", sp as u32);
+    put(out, after_sp, b'\n')
+}
