@@ -1,6 +1,6 @@
-//! The CESCA machine for Rust programs: a safe function for each one that the proved library
-//! exports, an independent [`mod@reference`] to hold them against, and a [`plain`] machine to
-//! measure them by.
+//! CESCA's admission desk and machine for Rust programs: a safe function for each one that the
+//! proved library exports, an independent [`mod@reference`] to hold them against, and a [`plain`]
+//! machine to measure them by.
 //!
 //! ```
 //! let mov = cesca_host::decode([0x30, 0x05]); // mov R0, 5
@@ -24,16 +24,36 @@
 //! assert_eq!(report.state.regs, [5, 0, 0, 0]);
 //! assert_eq!(cesca_host::running_time(report.cycles, 100), Ok(1)); // tenths of a second
 //! ```
+//!
+//! Listing A of the scope paper is admitted, and it isn't with a need of 1 for routine 0:
+//!
+//! ```
+//! let (mut opcodes, mut arguments) = ([0; 256], [0; 256]);
+//! opcodes[..8].copy_from_slice(&[0x30, 0xA8, 0xF0, 0xF8, 0x5E, 0x10, 0x88, 0xAC]);
+//! arguments[..8].copy_from_slice(&[0x05, 0x04, 0x00, 0x00, 0x00, 0x01, 0x00, 0x00]);
+//! let words: [u16; 8] = [0x8000, 0x8000, 0x8000, 0x8000, 0x8100, 0x8101, 0xC101, 0xC100];
+//! let mut sheet = [0; 512];
+//! for (bytes, word) in sheet.chunks_mut(2).zip(words) {
+//!     bytes.copy_from_slice(&word.to_le_bytes());
+//! }
+//! let admit = |list: [u8; 4]| cesca_host::admit(&opcodes, &arguments, &sheet, &list);
+//! assert_eq!(admit([0x00, 0x02, 0x04, 0x01]), Ok(()));
+//! let ground = admit([0x00, 0x01, 0x04, 0x01]).unwrap_err();
+//! assert_eq!((ground.number, ground.place), (15, 1));
+//! assert_eq!(ground.to_string(), "15 at 1");
+//! ```
 
 #![warn(missing_docs)]
 
 mod answers;
+mod ground;
 mod machine;
 pub mod plain;
 mod raw;
 pub mod reference;
 
 pub use answers::{AluAnswer, Class, Effect, Facts, Fields, Overflow, Refusal};
+pub use ground::Ground;
 pub use machine::{Flags, Lent, Report, RunRefusal, State, Stop, TimeRefusal};
 pub use machine::{FASTEST_CLOCK, MOST_CYCLES, MOST_STEPS};
 
@@ -97,6 +117,26 @@ pub fn alu(function: u8, x: u8, y: u8, c: bool) -> AluAnswer {
 pub fn facts(fields: Fields) -> Facts {
     // SAFETY: plain numbers in and out; the library asks nothing of them.
     unsafe { raw::cesca_facts(fields) }.into()
+}
+
+/// Success if the listing is admitted, else the first ground that refuses it.
+///
+/// The slices may have any length; nothing is written to them.
+pub fn admit(opcodes: &[u8], arguments: &[u8], sheet: &[u8], list: &[u8]) -> Result<(), Ground> {
+    // SAFETY: each pointer comes with the length of the slice behind it, which is only read.
+    let answer = unsafe {
+        raw::admit::cesca_admit(
+            opcodes.as_ptr(),
+            opcodes.len(),
+            arguments.as_ptr(),
+            arguments.len(),
+            sheet.as_ptr(),
+            sheet.len(),
+            list.as_ptr(),
+            list.len(),
+        )
+    };
+    raw::admit::outcome(answer)
 }
 
 /// What a run of at most `budget` steps from `start` reports, or why there is none.

@@ -1,8 +1,10 @@
 //! The library's exports as C sees them, and their answers read into this crate's words.
 
+pub mod admit;
 pub mod run;
 
 use crate::{AluAnswer, Class, Effect, Facts, Fields, Overflow, Refusal};
+use std::fmt::Display;
 
 /// An encoder's answer: 0 and the word, or a ground's number and zero bytes.
 #[repr(C)]
@@ -116,6 +118,6 @@ fn class(number: u8) -> Class {
 }
 
 /// The end of a call whose answer breaks the library's contract.
-fn unknown(kind: &str, number: u8) -> ! {
+fn unknown(kind: &str, number: impl Display) -> ! {
     panic!("the library answered {number}, which is no {kind}")
 }

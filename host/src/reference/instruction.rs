@@ -2,6 +2,7 @@
 
 use super::Form;
 use crate::{Fields, Refusal};
+use std::sync::LazyLock;
 
 /// The bytes of a bank.
 pub const BANK: usize = 256;
@@ -11,6 +12,10 @@ const LAST_REGISTER: u8 = 3;
 
 /// The highest function number.
 const LAST_FUNCTION: u8 = 15;
+
+/// The instruction of every word, the opcode in the high byte of its place.
+static INSTRUCTIONS: LazyLock<Vec<Instruction>> =
+    LazyLock::new(|| (0..=u16::MAX).map(u16::to_be_bytes).map(Instruction::decode).collect());
 
 /// A form with its fields; a field that the form doesn't have is 0 after decoding.
 #[derive(Clone, Copy, Debug, PartialEq, Eq)]
@@ -43,6 +48,11 @@ impl Instruction {
             b: form.read("B", word),
             imm: form.read("I@", word),
         }
+    }
+
+    /// The same, looked up in a table that is made once.
+    pub(super) fn of_word(word: [u8; 2]) -> Instruction {
+        INSTRUCTIONS[usize::from(u16::from_be_bytes(word))]
     }
 
     /// The word that stands for the instruction, free bits 0, or why there is none.

@@ -4,11 +4,6 @@ mod step;
 
 use super::{Form, Instruction, BANK};
 use crate::{Lent, Overflow, Report, RunRefusal, State, Stop, MOST_STEPS};
-use std::sync::LazyLock;
-
-/// The instruction of every word, the opcode in the high byte of its place.
-static INSTRUCTIONS: LazyLock<Vec<Instruction>> =
-    LazyLock::new(|| (0..=u16::MAX).map(u16::to_be_bytes).map(Instruction::decode).collect());
 
 /// A step as it was made.
 #[derive(Clone, Copy, Debug)]
@@ -76,8 +71,7 @@ impl Machine<'_> {
     /// The instruction at PC.
     fn instruction(&self) -> Instruction {
         let at = usize::from(self.state.pc);
-        let word = u16::from_be_bytes([self.lent.opcodes[at], self.lent.arguments[at]]);
-        INSTRUCTIONS[usize::from(word)]
+        Instruction::of_word([self.lent.opcodes[at], self.lent.arguments[at]])
     }
 
     /// The first reason not to make the step, if there is one.

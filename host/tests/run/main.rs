@@ -4,7 +4,9 @@ mod by_hand;
 mod case;
 mod jumps;
 mod laws;
+#[path = "../common/memory.rs"]
 mod memory;
+#[path = "../common/random.rs"]
 mod random;
 mod refusals;
 mod runs;

@@ -1,6 +1,6 @@
 //! Refused runs: the lowest number first, and nothing lent is changed.
 
-use crate::memory::{Guarded, Memory};
+use crate::memory::{Guarded, Memory, BANKS};
 use crate::MACHINES;
 use cesca_host::{RunRefusal, State};
 
@@ -31,13 +31,7 @@ fn check(memory: &Memory, budget: u32, start: State, number: u8) {
 
 #[test]
 fn banks_of_a_wrong_length() {
-    let banks: [fn(&mut Memory) -> &mut Guarded<u8>; 4] = [
-        |memory| &mut memory.opcodes,
-        |memory| &mut memory.arguments,
-        |memory| &mut memory.ram,
-        |memory| &mut memory.stack,
-    ];
-    for bank in banks {
+    for bank in BANKS {
         for length in [0, 1, 255, 257, 512, 65_536] {
             let mut memory = memory();
             *bank(&mut memory) = Guarded::new(vec![0xFC; length]);

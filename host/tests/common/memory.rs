@@ -40,6 +40,17 @@ impl<T: Copy + Display + From<u8> + PartialEq> Guarded<T> {
     }
 }
 
+/// A bank among the buffers of a run.
+pub type Bank = fn(&mut Memory) -> &mut Guarded<u8>;
+
+/// The four banks.
+pub const BANKS: [Bank; 4] = [
+    |memory| &mut memory.opcodes,
+    |memory| &mut memory.arguments,
+    |memory| &mut memory.ram,
+    |memory| &mut memory.stack,
+];
+
 /// The buffers of a run.
 #[derive(Clone, Debug, PartialEq, Eq)]
 pub struct Memory {

@@ -1,0 +1,63 @@
+//! The export for admission, and its answer read into this crate's words.
+
+use super::unknown;
+use crate::Ground;
+
+/// The first number past the routines that a list can have.
+const ROUTINES: u8 = 64;
+
+extern "C" {
+    pub fn cesca_admit(
+        opcodes: *const u8,
+        opcodes_len: usize,
+        arguments: *const u8,
+        arguments_len: usize,
+        sheet: *const u8,
+        sheet_len: usize,
+        list: *const u8,
+        list_len: usize,
+    ) -> u32;
+}
+
+/// Success for 0, else the ground of that answer.
+pub fn outcome(answer: u32) -> Result<(), Ground> {
+    if answer == 0 {
+        return Ok(());
+    }
+    let [number, place, 0, 0] = answer.to_le_bytes() else { unknown("ground", answer) };
+    let known = match number {
+        1 | 2 | 3 | 6 => place == 0,
+        7 => place < ROUTINES,
+        4 | 5 | 8..=16 => true,
+        _ => false,
+    };
+    if !known {
+        unknown("ground", answer);
+    }
+    Err(Ground { number, place })
+}
+
+#[cfg(test)]
+mod tests {
+    use super::*;
+    use std::panic::catch_unwind;
+
+    #[test]
+    fn answers_that_the_papers_give() {
+        assert_eq!(outcome(0), Ok(()));
+        for answer in [1, 2, 3, 4, 0xFF04, 5, 6, 7, 0x3F07, 8, 0xFF08, 16, 271, 272, 0xFF10] {
+            let ground = outcome(answer).expect_err("a refusal");
+            assert_eq!(ground.answer(), answer);
+        }
+        assert_eq!(outcome(271), Err(Ground { number: 15, place: 1 }));
+        assert_eq!(outcome(0xFF0D).expect_err("a refusal").to_string(), "13 at 255");
+    }
+
+    #[test]
+    fn other_answers_break_the_contract() {
+        let unknown = [17, 23, 255, 256, 0x101, 0x102, 0x103, 0x106, 0x4007, 0x1_0004, u32::MAX];
+        for answer in unknown {
+            assert!(catch_unwind(|| outcome(answer)).is_err(), "{answer}");
+        }
+    }
+}
