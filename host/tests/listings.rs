@@ -1,42 +1,14 @@
-//! The stored listings beside their text in the README.
-//!
-//! `cargo test --test listings -- --ignored` stores the files that the text describes.
+//! The stored listings beside their text in the README. `cargo run --example store` stores them.
 
 #[path = "common/stored.rs"]
 mod stored;
+#[path = "common/told.rs"]
+mod told;
 
 use cesca_host::reference::{self, Listing};
 use cesca_host::{admit, Ground};
-use std::fs;
-use std::path::PathBuf;
 use stored::{names, path, read, text};
-
-/// What a section of the README tells of a file.
-struct Told {
-    name: String,
-    listing: Listing,
-    /// What the desk prints.
-    printed: String,
-}
-
-/// The sections whose heading names a file: in the first block the listing, in the second what
-/// the desk prints.
-fn told() -> Vec<Told> {
-    let readme = text(&path("../listings/README.md"));
-    let sections = readme.split("\n## ").skip(1).filter_map(|section| {
-        let (name, rest) = section.split_once(".bin\n")?;
-        let mut blocks = rest.split("```").skip(1).step_by(2);
-        let mut block = || blocks.next()?.strip_prefix("text\n");
-        let (listing, printed) = (Listing::read(block()?), block()?.to_string());
-        Some(Told { name: name.to_string(), listing, printed })
-    });
-    sections.collect()
-}
-
-/// The file of a listing.
-fn file(name: &str) -> PathBuf {
-    path("../listings").join(name).with_extension("bin")
-}
+use told::{file, told, Told};
 
 /// The answer that a printed text stands for.
 fn answer(printed: &str) -> Result<(), String> {
@@ -99,13 +71,5 @@ fn the_library_answers_what_is_told() {
 fn the_desk_prints_what_is_told() {
     for Told { name, printed, .. } in told() {
         assert_eq!(stored::desk(&file(&name)), printed, "{name}");
-    }
-}
-
-#[test]
-#[ignore = "stores the files"]
-fn store_the_files() {
-    for Told { name, listing, .. } in told() {
-        fs::write(file(&name), listing.file()).expect("a place to store");
     }
 }

@@ -44,7 +44,8 @@ fn less_one(depth: u8) -> u16
 fn onward_ground(sheet: &[u8], a: u8, routine: u8, deep: u16, mark: bool) -> u32
     ensures { λ r. ⌜ r ≡ firstBroken (classChecks (drawnBy (now (sheet .entry)) []) a (Next Keeps) routine deep mark) ⌝ }
 {
-    let bad = bad_successor(sheet, wrapping_add_u8(a, 1), routine, deep, mark);
+    let next = wrapping_add_u8(a, 1);
+    let bad = bad_successor(sheet, next, routine, deep, mark);
     first(a == 255, 13, a, first(bad, 16, a, 0))
 }
 
@@ -83,7 +84,8 @@ fn call_ground(sheet: &[u8], list: &[u8], a: u8, target: u8, routine: u8, depth:
     let w = word_at(sheet, target);
     let callee = w.routine;
     let need = wide(need_of(list, routine));
-    let within = wide(depth) + 1 + wide(need_of(list, callee));
+    let held = wide(depth) + 1;
+    let within = held + wide(need_of(list, callee));
     let bad = bad_successor(sheet, wrapping_add_u8(a, 1), routine, wide(depth), false);
     let after = first(need < within, 15, a, first(bad, 16, a, 0));
     first(

@@ -1,8 +1,8 @@
 // The admission of listings: banks, stack sheet and routine list against 01's grounds 1 to 16.
-pub mod addresses;
-pub mod grounds;
-pub mod scans;
-pub mod sheet;
+mod addresses;
+mod grounds;
+mod scans;
+mod sheet;
 
 ghost use Rattle.rules.specs.Sheet.{listing};
 ghost use Rattle.admission.specs.Admission.{Admission};

@@ -20,12 +20,9 @@ fn sizes(opcodes: &[u8], arguments: &[u8], sheet: &[u8], list: &[u8]) -> u32
     let n = list.len();
     let bad_banks = !((opcodes.len() == 256) & (arguments.len() == 256));
     let bad_list = (n % 2 == 1) | ((n == 0) | (128 < n));
-    first(
-        bad_banks,
-        1,
-        0,
-        first(!(sheet.len() == 512), 2, 0, first(bad_list, 3, 0, 0)),
-    )
+    let bad_sheet = !(sheet.len() == 512);
+    let rest = first(bad_sheet, 2, 0, first(bad_list, 3, 0, 0));
+    first(bad_banks, 1, 0, rest)
 }
 
 // 4 at the lowest address that breaks it, or 0.
@@ -65,13 +62,13 @@ fn scan_entries(sheet: &[u8], list: &[u8]) -> u32
     ensures { λ r. ⌜ r ≡ entriesOf (drawnBy (now (sheet .entry)) (now (list .entry))) ⌝ }
 {
     let routines = list.len() / 2;
-    let mut i: usize = 0;
-    while i < routines {
-        let answer = entry_ground(sheet, list, i as u8);
+    let mut routine: usize = 0;
+    while routine < routines {
+        let answer = entry_ground(sheet, list, routine as u8);
         if answer != 0 {
             return answer;
         }
-        i += 1;
+        routine += 1;
     }
     0
 }
@@ -81,13 +78,13 @@ fn scan_addresses(opcodes: &[u8], arguments: &[u8], sheet: &[u8], list: &[u8]) -
     requires { ⌜ Entered (drawnBy (now sheet) (now list)) ⌝ }
     ensures { λ r. ⌜ r ≡ addressesOf (listing (now (opcodes .entry)) (now (arguments .entry)) (now (sheet .entry)) (now (list .entry))) ⌝ }
 {
-    let mut i: usize = 0;
-    while i < 256 {
-        let answer = address_ground(opcodes, arguments, sheet, list, i as u8);
+    let mut at: usize = 0;
+    while at < 256 {
+        let answer = address_ground(opcodes, arguments, sheet, list, at as u8);
         if answer != 0 {
             return answer;
         }
-        i += 1;
+        at += 1;
     }
     0
 }

@@ -1,7 +1,7 @@
 //! The desk program on stored inputs, byte for byte.
 //!
-//! Each `NAME.in` is what the case of that name makes, stored by
-//! `cargo test --test desk -- --ignored`. Each `NAME.out` was worked out by hand.
+//! Each `NAME.in` is what the case of that name makes, stored by `cargo run --example store`. Each
+//! `NAME.out` was worked out by hand.
 
 mod cases;
 #[path = "../common/stored.rs"]
@@ -9,7 +9,6 @@ mod stored;
 
 use cases::cases;
 use cesca_host::reference;
-use std::fs;
 use std::path::PathBuf;
 use stored::{names, path, read, text};
 
@@ -53,13 +52,5 @@ fn every_ground_is_refused() {
     for number in 1..=16 {
         let start = format!("refused {number} at ");
         assert!(printed.iter().any(|text| text.starts_with(&start)), "{start}");
-    }
-}
-
-#[test]
-#[ignore = "stores the inputs"]
-fn store_the_inputs() {
-    for (name, input) in cases() {
-        fs::write(file(name, "in"), input).expect("a place to store");
     }
 }

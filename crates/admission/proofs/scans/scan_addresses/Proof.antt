@@ -9,10 +9,10 @@ use Rattle.admission.proofs.scans.scan_addresses.Statement.{statement}
 use Rattle.admission.proofs.scans.scan_addresses.Tie as tie
 
 abbrev Inv-loop : tie.InvT-loop
-Inv-loop opcodes arguments sheet list i₀ i = Scanning (addressChecks (listing opcodes arguments sheet list)) 256 i
+Inv-loop opcodes arguments sheet list at₀ at = Scanning (addressChecks (listing opcodes arguments sheet list)) 256 at
 
 abbrev μ-loop : tie.MeasureT-loop
-μ-loop opcodes arguments sheet list i₀ i = 256 - i
+μ-loop opcodes arguments sheet list at₀ at = 256 - at
 
 pub scan-addresses-spec : {M : Type 1} → statement M
 scan-addresses-spec =

@@ -13,10 +13,10 @@ use Rattle.admission.proofs.scans.scan_entries.Statement.{statement}
 use Rattle.admission.proofs.scans.scan_entries.Tie as tie
 
 abbrev Inv-loop : tie.InvT-loop
-Inv-loop sheet list routines i₀ i = Scanning (λ r. check 7 r (badEntry (drawnBy sheet list) r) ∷ []) (length list / 2) i
+Inv-loop sheet list routines routine₀ routine = Scanning (λ r. check 7 r (badEntry (drawnBy sheet list) r) ∷ []) (length list / 2) routine
 
 abbrev μ-loop : tie.MeasureT-loop
-μ-loop sheet list routines i₀ i = length list / 2 - i
+μ-loop sheet list routines routine₀ routine = length list / 2 - routine
 
 pub scan-entries-spec : {M : Type 1} → statement M
 unfolding firstBroken badEntry described marked routine depth routines entry word wordOf
