@@ -2,6 +2,7 @@
 -- Assumes nothing.
 use Prim.Native.Nat.{_-_}
 use borrow.Author.Needs.{needs}
+use native.Mathlib.Omega.{arith}
 use Rattle.rules.proofs.Scanning.{Scanning, scan-start, scan-hit, scan-pass, scan-end}
 use Rattle.rules.specs.Grounds.{addressChecks}
 use Rattle.rules.specs.Sheet.{listing}
@@ -23,8 +24,8 @@ scan-addresses-spec =
     (λ c. scan-start)
     (λ c. search needs)
     (λ c κs. search needs)
-    (λ c. scan-hit (c .before .before .before .loop .inv) (c .before .before .loop-test .taken) (c .before .address-ground .ensures) (c .if1 .taken))
+    (λ c. scan-hit (c .before .before .before .loop .inv) (omega (arith, c .before .before .loop-test .taken)) (c .before .address-ground .ensures) (c .if1 .taken))
     (λ c. search needs)
     (λ c. search needs)
-    (λ c. scan-pass (c .before .before .before .loop .inv) (c .before .before .loop-test .taken) (c .before .address-ground .ensures) (c .if1 .left))
-    (λ c. scan-end (c .before .loop .inv) (c .loop-test .left)))
+    (λ c. scan-pass (c .before .before .before .loop .inv) (omega (arith, c .before .before .loop-test .taken)) (c .before .address-ground .ensures) (c .if1 .left))
+    (λ c. scan-end (c .before .loop .inv) (omega (arith, c .loop-test .left))))

@@ -2,6 +2,7 @@
 -- Assumes nothing.
 use Prim.Native.Nat.{_-_, _/_}
 use borrow.Author.Needs.{needs}
+use native.Mathlib.Omega.{arith}
 use lib.ListN.{length}
 use mathlib.Core.List.{[], _∷_}
 use Rattle.admission.specs.Parts.{drawnBy}
@@ -28,8 +29,8 @@ scan-entries-spec =
     (λ c. scan-start)
     (λ c. search needs)
     (λ c κs. search needs)
-    (λ c. scan-hit (c .before .before .before .loop .inv) (c .before .before .loop-test .taken) (c .before .entry-ground .ensures) (c .if1 .taken))
+    (λ c. scan-hit (c .before .before .before .loop .inv) (omega (arith, c .before .before .loop-test .taken)) (c .before .entry-ground .ensures) (c .if1 .taken))
     (λ c. search needs)
     (λ c. search needs)
-    (λ c. scan-pass (c .before .before .before .loop .inv) (c .before .before .loop-test .taken) (c .before .entry-ground .ensures) (c .if1 .left))
-    (λ c. scan-end (c .before .loop .inv) (c .loop-test .left)))
+    (λ c. scan-pass (c .before .before .before .loop .inv) (omega (arith, c .before .before .loop-test .taken)) (c .before .entry-ground .ensures) (c .if1 .left))
+    (λ c. scan-end (c .before .loop .inv) (omega (arith, c .loop-test .left))))
