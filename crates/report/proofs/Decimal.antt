@@ -1,11 +1,14 @@
--- The digits of a number: what the last one adds, that they are read as the number, and that no 0 leads.
+-- The digits of a number: what the last one adds, that they are read as the number, that no 0 leads, and how many there are.
 -- Assumes nothing.
 use mathlib.Core.Path.{_≡_, refl, sym, ap, _∙_}
 use mathlib.Core.List.{List, [], _∷_, _++_}
 use Prim.Native.Nat.{ℕ, zero, suc, _+_, _-_, _*_, _/_, _<_, _≤_}
 use native.Mathlib.Omega.{arith}
-use lib.ListN.{getD}
-use Rattle.report.specs.Lines.{digit, digits, decimal, readOn, value}
+use lib.ListN.{length, getD, length-append}
+use lib.Dec.{ltb}
+use borrow.Author.Tests.{ltb-true, ltb-false}
+use Rattle.model.proofs.Runs.{by-test}
+use Rattle.report.specs.Lines.{digit, digits, decimal, mostDigits, readOn, value}
 
 none : (most : ℕ) → digits most 0 ≡ []
 unfolding digits
@@ -81,3 +84,21 @@ leads (suc most) (suc n) a b =
 -- the first digit of a number that is not 0 is at least "1"
 pub no-leading-zero : (n : ℕ) → 0 < n → 49 ≤ getD (decimal n) 0 0
 no-leading-zero n l = rw (← digits-decimal n n l (omega arith)) (leads n n l (omega arith))
+
+-- ten, and k times ten times that
+abbrev tens : ℕ → ℕ
+tens zero = 10
+tens (suc k) = 10 * tens k
+
+digits-below : (k n : ℕ) → n < tens k → length (decimal n) ≤ suc k
+digits-below zero n l = rw (one-digit n l) (omega arith)
+digits-below (suc k) n l =
+    by-test (ltb n 10)
+    (λ e. rw (one-digit n (ltb-true n 10 e)) (omega arith))
+    (λ e.
+    let h = digits-below k (n / 10) (omega arith) in
+    rw (more-digits n (ltb-false n 10 e), length-append (decimal (n / 10)) (digit n ∷ [])) (omega arith))
+
+-- a number of 32 bits has at most ten digits
+pub decimal-short : (n : ℕ) → n < 4294967296 → length (decimal n) ≤ mostDigits
+decimal-short n l = let h : n < 10000000000 = omega arith in digits-below 9 n h

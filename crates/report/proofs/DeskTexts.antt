@@ -1,20 +1,21 @@
--- The desk's text from what was computed: parts of the input, admission's answer, a run's outcome.
+-- The desk's text from what was computed: parts of the input, admission's answer, a run's outcome; and that a buffer with room holds all of it.
 -- Assumes nothing.
-use Prim.Native.Nat.{ℕ, _/_, _%_}
+use Prim.Native.Nat.{ℕ, _/_, _%_, _≤_}
 use native.Mathlib.Omega.{arith}
 use mathlib.Core.Path.{_≡_, sym, ap, _∙_}
 use mathlib.Core.List.{List, [], _++_}
-use lib.ListN.{getD, replicate}
+use lib.ListN.{length, getD, take, replicate}
+use lib.Seq.{take-append-seam}
 use borrow.Author.Tests.{eq-eqb, ne-eqb}
 use Rattle.model.specs.Run.{Outcome, callOf}
 use Rattle.model.specs.State.{startState}
 use Rattle.model.specs.declared.State.{State}
 use Rattle.rules.specs.Grounds.{admitOf}
 use Rattle.rules.specs.Sheet.{listing, need}
-use Rattle.report.specs.Desk.{partOf, ranOf, ranText, textBy, textOf, deskText, Answered}
+use Rattle.report.specs.Desk.{partOf, ranOf, ranText, textBy, deskText, deskRoom, Answered}
 use Rattle.report.specs.Lines.{refusedLine, admittedLine}
-use Rattle.report.specs.Page.{Page, page, writeOf}
-use Rattle.report.proofs.Pages.{write-within}
+use Rattle.report.specs.Page.{Page, page, Written}
+use Rattle.report.proofs.Pages.{written-same, write-within, write-whole}
 
 pub ran-text : (ops args : List ℕ) (s : State) (o : Outcome) → s ≡ startState
     → o ≡ callOf ops args [] 1000 s (replicate 256 0) (replicate 256 0) (replicate 1000 0) → ranText o ≡ ranText (ranOf ops args)
@@ -34,11 +35,20 @@ module _ (input o g s l : List ℕ) (eo : o ≡ partOf input 0 256) (eg : g ≡ 
   unfolding need
   admitted-text z b e = ap (λ (k : ℕ). admittedLine k ++ ranText (ranOf o g)) e ∙ sym (rw (eq-eqb n 0 z)) ∙ parts-text
 
--- a text that was written from the beginning ends within the buffer
-pub answered : (input before after : List ℕ) (n : ℕ) (t : List ℕ) → page after n ≡ writeOf t (page before 0) → t ≡ deskText input
+-- a text that was written from the beginning ends within the buffer, and is whole where there is room
+pub answered : {input before after t : List ℕ} {n : ℕ} → Written deskRoom t (page before 0) (page after n) → t ≡ deskText input
     → Answered input before after n
-answered input before after n t e q =
+answered {input} {before} v e =
+    let w = written-same v e in
+    let s = w .short in
     record {
-      text = e ∙ ap (λ (u : List ℕ). writeOf u (page before 0)) q;
-      within = rw (ap (λ (p : Page). p .at) e, ap (λ (p : Page). p .bytes) e) (write-within t (page before 0) (omega arith));
+      text = w .left;
+      within = rw (ap (λ (p : Page). p .at) (w .left), ap (λ (p : Page). p .bytes) (w .left)) (write-within (deskText input) (page before 0) (omega arith));
+      whole = λ room.
+          let h = w .left ∙ write-whole (deskText input) before (omega arith) in
+          (ap (λ (p : Page). p .at) h, ap (λ (p : Page). p .bytes) h);
     }
+
+-- the bytes that were answered, `out[..n]`, are then the text
+pub answered-bytes : {input before after : List ℕ} {n : ℕ} → Answered input before after n → deskRoom ≤ length before → take n after ≡ deskText input
+answered-bytes {input} a room = let w = a .whole room in rw (w .0, w .1) (take-append-seam (deskText input) _)

@@ -49,7 +49,15 @@ textOf L = textBy (admitOf L) L
 unfoldable pub deskText : List ℕ → List ℕ
 deskText input = textOf (listingIn input)
 
--- what an answer of n bytes leaves in a lent buffer: the text from its beginning, and behind it what was there
+-- room for any answer: for an admitted listing's two lines, 25 + 74, and so for a refused one's
+abbrev pub deskRoom : ℕ
+deskRoom = 99
+
+-- what an answer of n bytes leaves in a lent buffer
 pub record Answered (input before after : List ℕ) (n : ℕ) : Type 0 where
+  -- the text from the buffer's beginning, as far as there is room, and behind it what was there
   pub text : page after n ≡ writeOf (deskText input) (page before 0)
   pub within : n ≤ length after
+  -- where there is room for any answer, n bytes are the whole text
+  pub whole : deskRoom ≤ length before
+      → (n ≡ length (deskText input)) × (after ≡ deskText input ++ drop (length (deskText input)) before)

@@ -1,4 +1,4 @@
--- The lines that the desk prints (01, 'Listing A and the edges'), as bytes in ASCII.
+-- The lines that the desk prints (01, 'Listing A and the edges'), as bytes in ASCII, and room for each of them.
 -- Assumes nothing.
 use Prim.Native.Nat.{ℕ, zero, suc, _+_, _-_, _*_, _/_, _%_}
 use Prim.Native.Char.{code}
@@ -26,6 +26,10 @@ digits (suc most) (suc n) = digits most (suc n / 10) ++ (digit (suc n) ∷ [])
 unfoldable pub decimal : ℕ → List ℕ
 decimal n = digits n (n / 10) ++ (digit n ∷ [])
 
+-- a number of 32 bits has at most ten digits (proofs/Decimal.antt)
+abbrev pub mostDigits : ℕ
+mostDigits = 10
+
 -- what a row of digits is read as, behind a number v already read
 abbrev pub readOn : ℕ → List ℕ → ℕ
 readOn v [] = v
@@ -43,9 +47,17 @@ numbered text n = text ++ decimal n
 unfoldable pub refusedLine : ℕ → ℕ → List ℕ
 refusedLine number place = numbered (ascii "refused ") number ++ numbered (ascii " at ") place ++ ascii "\n"
 
+-- room for it, its numbers being of 32 bits: (8 + 10) + (4 + 10) + 1
+abbrev pub refusedRoom : ℕ
+refusedRoom = 33
+
 -- 01: "admitted need 2"; "the need is routine 0's"
 unfoldable pub admittedLine : ℕ → List ℕ
 admittedLine need = numbered (ascii "admitted need ") need ++ ascii "\n"
+
+-- room for it: (14 + 10) + 1
+abbrev pub admittedRoom : ℕ
+admittedRoom = 25
 
 -- 01: "The stops are named halted, spent, unsettled and full, in this order"
 unfoldable pub stopWord : Stop → List ℕ
@@ -53,6 +65,10 @@ stopWord Halted = ascii "halted"
 stopWord Spent = ascii "spent"
 stopWord Unsettled = ascii "unsettled"
 stopWord Full = ascii "full"
+
+-- room for the longest of them
+abbrev pub stopRoom : ℕ
+stopRoom = 9
 
 -- 01: "halted steps 8 cycles 31 out 6 sp 255"; "out is the output register"
 unfoldable pub runLine : Stop → ℕ → ℕ → ℕ → ℕ → List ℕ
@@ -63,3 +79,7 @@ runLine stop steps cycles output sp =
     ++ numbered (ascii " out ") output
     ++ numbered (ascii " sp ") sp
     ++ ascii "\n"
+
+-- room for it: 9 + (7 + 10) + (8 + 10) + (5 + 10) + (4 + 10) + 1
+abbrev pub runRoom : ℕ
+runRoom = 74

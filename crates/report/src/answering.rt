@@ -11,7 +11,8 @@ use slices::part;
 ghost use mathlib.Core.Path.{_≡_};
 ghost use Rattle.model.specs.State.{startState};
 ghost use Rattle.report.specs.Desk.{ranOf, ranLine, ranText, Answered};
-ghost use Rattle.report.specs.Page.{page, writeOf};
+ghost use Rattle.report.specs.Lines.{runRoom};
+ghost use Rattle.report.specs.Page.{page, Written};
 
 // 01's start state.
 fn start() -> State
@@ -35,7 +36,7 @@ fn start() -> State
 
 // The line of a run's answer is written from a place on, none of a refusal; the place after it.
 fn ran_line(out: &mut [u8], at: usize, answer: Answer, reached: State) -> usize
-    ensures { λ r. ⌜ page (now (out .exit)) r ≡ writeOf (ranLine answer reached) (page (now (out .entry)) at) ⌝ }
+    ensures { λ r. ⌜ Written runRoom (ranLine answer reached) (page (now (out .entry)) at) (page (now (out .exit)) r) ⌝ }
 {
     match answer {
         Answer::Refused(_) => at,
@@ -47,7 +48,7 @@ fn ran_line(out: &mut [u8], at: usize, answer: Answer, reached: State) -> usize
 
 // A program is run, and the line of the run is written from a place on; the place after it.
 fn run_program(opcodes: &[u8], arguments: &[u8], out: &mut [u8], at: usize) -> usize
-    ensures { λ r. ⌜ page (now (out .exit)) r ≡ writeOf (ranText (ranOf (now (opcodes .entry)) (now (arguments .entry)))) (page (now (out .entry)) at) ⌝ }
+    ensures { λ r. ⌜ Written runRoom (ranText (ranOf (now (opcodes .entry)) (now (arguments .entry)))) (page (now (out .entry)) at) (page (now (out .exit)) r) ⌝ }
 {
     let mut ram = [0u8; 256];
     let mut stack = [0u8; 256];

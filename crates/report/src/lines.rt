@@ -3,13 +3,15 @@ use super::put;
 use super::write;
 use super::write_decimal;
 use model::Stop;
-ghost use mathlib.Core.Path.{_≡_};
-ghost use Rattle.report.specs.Lines.{numbered, refusedLine, admittedLine, stopWord, runLine};
-ghost use Rattle.report.specs.Page.{page, writeOf};
+ghost use Prim.Native.Nat.{_+_};
+ghost use lib.ListN.{length};
+ghost use Rattle.report.specs.Lines.{mostDigits, numbered, refusedLine, refusedRoom, admittedLine, admittedRoom};
+ghost use Rattle.report.specs.Lines.{stopWord, stopRoom, runLine, runRoom};
+ghost use Rattle.report.specs.Page.{page, Written};
 
 // A text and then a number are written from a place on; the place after them.
 fn write_numbered(out: &mut [u8], at: usize, text: &[u8], n: u32) -> usize
-    ensures { λ r. ⌜ page (now (out .exit)) r ≡ writeOf (numbered (now (text .entry)) n) (page (now (out .entry)) at) ⌝ }
+    ensures { λ r. ⌜ Written (length (now (text .entry)) + mostDigits) (numbered (now (text .entry)) n) (page (now (out .entry)) at) (page (now (out .exit)) r) ⌝ }
 {
     let next = write(out, at, text);
     write_decimal(out, next, n)
@@ -17,7 +19,7 @@ fn write_numbered(out: &mut [u8], at: usize, text: &[u8], n: u32) -> usize
 
 // The line of a refused listing is written from a place on; the place after it.
 pub fn refused_line(out: &mut [u8], at: usize, number: u32, place: u32) -> usize
-    ensures { λ r. ⌜ page (now (out .exit)) r ≡ writeOf (refusedLine number place) (page (now (out .entry)) at) ⌝ }
+    ensures { λ r. ⌜ Written refusedRoom (refusedLine number place) (page (now (out .entry)) at) (page (now (out .exit)) r) ⌝ }
 {
     let after_number = write_numbered(out, at, b"refused ", number);
     let after_place = write_numbered(out, after_number, b" at ", place);
@@ -26,7 +28,7 @@ pub fn refused_line(out: &mut [u8], at: usize, number: u32, place: u32) -> usize
 
 // The first line of an admitted listing is written from a place on; the place after it.
 pub fn admitted_line(out: &mut [u8], at: usize, need: u8) -> usize
-    ensures { λ r. ⌜ page (now (out .exit)) r ≡ writeOf (admittedLine need) (page (now (out .entry)) at) ⌝ }
+    ensures { λ r. ⌜ Written admittedRoom (admittedLine need) (page (now (out .entry)) at) (page (now (out .exit)) r) ⌝ }
 {
     let after_need = write_numbered(out, at, b"admitted need ", need as u32);
     put(out, after_need, b'\n')
@@ -34,7 +36,7 @@ pub fn admitted_line(out: &mut [u8], at: usize, need: u8) -> usize
 
 // A stop's word is written from a place on; the place after it.
 fn write_stop(out: &mut [u8], at: usize, stop: Stop) -> usize
-    ensures { λ r. ⌜ page (now (out .exit)) r ≡ writeOf (stopWord stop) (page (now (out .entry)) at) ⌝ }
+    ensures { λ r. ⌜ Written stopRoom (stopWord stop) (page (now (out .entry)) at) (page (now (out .exit)) r) ⌝ }
 {
     match stop {
         Stop::Halted => write(out, at, b"halted"),
@@ -54,7 +56,7 @@ pub fn run_line(
     output: u8,
     sp: u8,
 ) -> usize
-    ensures { λ r. ⌜ page (now (out .exit)) r ≡ writeOf (runLine stop steps cycles output sp) (page (now (out .entry)) at) ⌝ }
+    ensures { λ r. ⌜ Written runRoom (runLine stop steps cycles output sp) (page (now (out .entry)) at) (page (now (out .exit)) r) ⌝ }
 {
     let after_stop = write_stop(out, at, stop);
     let after_steps = write_numbered(out, after_stop, b" steps ", steps);

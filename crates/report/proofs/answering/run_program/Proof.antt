@@ -1,11 +1,8 @@
 -- What the run's outcome says, written behind what stands there.
 -- Assumes nothing.
 use borrow.Author.Needs.{needs}
-use mathlib.Core.List.{List}
-use mathlib.Core.Path.{ap, _∙_}
-use Prim.Native.Nat.{ℕ}
-use Rattle.report.specs.Page.{page, writeOf}
 use Rattle.report.proofs.DeskTexts.{ran-text}
+use Rattle.report.proofs.Pages.{written-same}
 use Rattle.report.proofs.answering.run_program.Statement.{statement}
 use Rattle.report.proofs.answering.run_program.Tie as tie
 
@@ -21,4 +18,7 @@ run-program-spec =
     (λ c κs. search needs)
     (λ c κs. search needs)
     (λ c. search needs)
-    (λ c. let a = c .before .before .before .before .before .before .before .before .before .before .before .before .before .before .before .before .before .args in c .before .before .ran-line .ensures ∙ ap (λ (t : List ℕ). writeOf t (page (a .out .now) (a .at))) (ran-text (a .opcodes .now) (a .arguments .now) _ _ (c .before .before .before .before .before .before .before .before .before .start .ensures) (c .before .before .before .before .before .before .before .before .run .ensures))))
+    (λ c.
+    let after-run = c .before .before .before .before .before .before .before .before in
+    let a = after-run .before .before .before .before .before .before .before .before .before .args in
+    written-same (c .before .before .ran-line .ensures) (ran-text (a .opcodes .now) (a .arguments .now) _ _ (after-run .before .start .ensures) (after-run .run .ensures))))

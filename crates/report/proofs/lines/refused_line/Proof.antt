@@ -2,8 +2,7 @@
 -- Assumes nothing.
 use borrow.Author.Needs.{needs}
 use Rattle.report.specs.Lines.{refusedLine}
-use Rattle.report.specs.Page.{page}
-use Rattle.report.proofs.Pages.{text-behind, byte-behind}
+use Rattle.report.proofs.Pages.{texts-written, byte-written}
 use Rattle.report.proofs.lines.refused_line.Statement.{statement}
 use Rattle.report.proofs.lines.refused_line.Tie as tie
 
@@ -12,9 +11,7 @@ unfolding refusedLine
 returns c =
     let after-place = c .before .before .before .before .before .before in
     let after-number = after-place .before .before .before .before .before in
-    let a = after-number .before .before .before .before .args in
-    let p = page (a .out .now) (a .at) in
-    byte-behind _ 10 p (text-behind _ _ p (after-number .write-numbered .ensures) (after-place .write-numbered2 .ensures)) (c .before .before .put .ensures)
+    byte-written 10 (texts-written (after-number .write-numbered .ensures) (after-place .write-numbered2 .ensures)) (c .before .before .put .ensures)
 
 pub refused-line-spec : {M : Type 1} → statement M
 refused-line-spec =

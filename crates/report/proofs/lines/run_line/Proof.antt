@@ -2,8 +2,7 @@
 -- Assumes nothing.
 use borrow.Author.Needs.{needs}
 use Rattle.report.specs.Lines.{runLine}
-use Rattle.report.specs.Page.{page}
-use Rattle.report.proofs.Pages.{text-behind, byte-behind}
+use Rattle.report.proofs.Pages.{texts-written, byte-written}
 use Rattle.report.proofs.lines.run_line.Statement.{statement}
 use Rattle.report.proofs.lines.run_line.Tie as tie
 
@@ -15,13 +14,11 @@ returns c =
     let after-cycles = after-output .before .before .before .before .before in
     let after-steps = after-cycles .before .before .before .before .before in
     let after-stop = after-steps .before .before .before .before .before in
-    let a = after-stop .before .before .before .args in
-    let p = page (a .out .now) (a .at) in
-    byte-behind _ 10 p
-    (text-behind _ _ p
-    (text-behind _ _ p
-    (text-behind _ _ p
-    (text-behind _ _ p (after-stop .write-stop .ensures) (after-steps .write-numbered .ensures))
+    byte-written 10
+    (texts-written
+    (texts-written
+    (texts-written
+    (texts-written (after-stop .write-stop .ensures) (after-steps .write-numbered .ensures))
     (after-cycles .write-numbered2 .ensures))
     (after-output .write-numbered3 .ensures))
     (after-sp .write-numbered4 .ensures))

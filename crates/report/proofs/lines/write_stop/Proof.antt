@@ -1,25 +1,26 @@
--- Each stop has its word.
+-- Each stop has its word, none longer than "unsettled".
 -- Assumes nothing.
 use borrow.Author.Needs.{needs}
+use native.Mathlib.Omega.{arith}
 use Rattle.report.specs.Lines.{stopWord}
 use Rattle.report.proofs.lines.write_stop.Statement.{statement}
 use Rattle.report.proofs.lines.write_stop.Tie as tie
 
 returns : tie.Need-returns
 unfolding stopWord
-returns c = rw (c .before .before .before .before .before .enum-told .given .1) (c .before .before .write .ensures)
+returns c = rw (c .before .before .before .before .before .enum-told .given .1) (record { left = c .before .before .write .ensures; short = omega arith })
 
 returns-2 : tie.Need-returns-2
 unfolding stopWord
-returns-2 c = rw (c .before .before .before .before .before .enum-told2 .given .1) (c .before .before .write2 .ensures)
+returns-2 c = rw (c .before .before .before .before .before .enum-told2 .given .1) (record { left = c .before .before .write2 .ensures; short = omega arith })
 
 returns-3 : tie.Need-returns-3
 unfolding stopWord
-returns-3 c = rw (c .before .before .before .before .before .enum-told3 .given .1) (c .before .before .write3 .ensures)
+returns-3 c = rw (c .before .before .before .before .before .enum-told3 .given .1) (record { left = c .before .before .write3 .ensures; short = omega arith })
 
 returns-4 : tie.Need-returns-4
 unfolding stopWord
-returns-4 c = rw (c .before .before .before .before .before .enum-told4 .given .1) (c .before .before .write4 .ensures)
+returns-4 c = rw (c .before .before .before .before .before .enum-told4 .given .1) (record { left = c .before .before .write4 .ensures; short = omega arith })
 
 pub write-stop-spec : {M : Type 1} → statement M
 write-stop-spec =
