@@ -10,6 +10,7 @@ use lib.Dec.{leb, eqb·suc-zero}
 use lib.ListN.{length}
 use Rattle.alu.specs.Alu.{isSettled}
 use Rattle.isa.specs.Facts.{writesRoll}
+use Rattle.slices.proofs.Bools.{by-test}
 use Rattle.model.specs.Run.{Ended, ended, testsOverflow, firstStop, verdictOf, verdictAt, runOf}
 use Rattle.model.specs.Step.{Program, Machine, nextInstr, stepOf}
 use Rattle.model.specs.declared.Stop.{Stop}
@@ -17,11 +18,7 @@ use Rattle.model.specs.declared.Stop.the-variants.{Halted, Spent, Unsett
 use Rattle.model.specs.declared.Verdict.{Verdict}
 use Rattle.model.specs.declared.Verdict.the-variants.{Go, Stopped}
 
--- by the two cases of a test and of a verdict, with the equation
-pub by-test {ℓ} : {A : Type ℓ} (t : Bool) → (t ≡ true → A) → (t ≡ false → A) → A
-by-test true f g = f refl
-by-test false f g = g refl
-
+-- by the two cases of a verdict, with the equation
 pub by-verdict {ℓ} : {A : Type ℓ} (v : Verdict) → ((x : Stop) → v ≡ Stopped x → A) → (v ≡ Go → A) → A
 by-verdict (Stopped x) f g = f x refl
 by-verdict Go f g = g refl

@@ -7,7 +7,7 @@ use native.Mathlib.Omega.{arith}
 use lib.ListN.{length, getD, length-append}
 use lib.Dec.{ltb}
 use borrow.Author.Tests.{ltb-true, ltb-false}
-use Rattle.model.proofs.Runs.{by-test}
+use Rattle.slices.proofs.Bools.{by-test}
 use Rattle.report.specs.Lines.{digit, digits, decimal, mostDigits, readOn, value}
 
 none : (most : ℕ) → digits most 0 ≡ []

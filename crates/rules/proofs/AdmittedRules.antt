@@ -13,8 +13,7 @@ use borrow.Author.Tests.{eqb-true, eqb-false, ltb-false, ltb-true, not-false}
 use Rattle.isa.specs.declared.Class.{Class}
 use Rattle.isa.specs.declared.Class.the-variants as class
 use Rattle.model.specs.Run.{testsIn}
-use Rattle.model.proofs.Runs.{by-test}
-use Rattle.slices.proofs.Bools.{neither}
+use Rattle.slices.proofs.Bools.{by-test, neither}
 use Rattle.rules.specs.FirstDemand.{NoneBroken}
 use Rattle.rules.specs.Grounds.{Check, check, firstBroken, each, find, callee, isJumpReg, takesOwn, isReturn, ofCall, badBanks, badSheet, badList, badBlank, badRoutine, badStart, badEntry, badSuccessor, anyBad, rulesAt, addressChecks, checks, admitOf}
 use Rattle.rules.specs.Sheet.{Listing, word, described, marked, routine, depth, routines, entry, need, classAt}

@@ -6,7 +6,7 @@ use native.Mathlib.Omega.{arith}
 use mathlib.Core.Path.{_≡_, refl, sym, ap, ap₂, _∙_}
 use mathlib.Core.List.{List, [], _∷_, _++_}
 use mathlib.Core.Bool.{true, false}
-use Rattle.model.proofs.Runs.{by-test}
+use Rattle.slices.proofs.Bools.{by-test}
 use Rattle.rules.specs.FirstDemand.{NoneBroken, FirstDemand}
 use Rattle.rules.specs.Grounds.{Check, check, firstBroken, each, badBanks, badSheet, badList, badBlank, badRoutine, badStart, badEntry, addressChecks, checks, admitOf}
 use Rattle.rules.specs.Scans.{orElse, scanOf, sizesOf, scannedOf}

@@ -21,7 +21,7 @@ use Rattle.model.specs.Plan.{Plan, valueOf, differ, planOf}
 use Rattle.model.specs.State.{plusOne, minusOne, register, withPc, withPosition}
 use Rattle.model.specs.Step.{fetched, stackAfter}
 use Rattle.model.specs.declared.State.{State}
-use Rattle.model.proofs.Runs.{by-test}
+use Rattle.slices.proofs.Bools.{by-test}
 use Rattle.rules.specs.Tally.{Store, storesOf}
 
 -- what an effect does to V

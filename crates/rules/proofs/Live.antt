@@ -18,7 +18,7 @@ use Rattle.isa.specs.declared.OverflowEffect.{OverflowEffect}
 use Rattle.isa.specs.declared.OverflowEffect.the-variants.{Keeps, Settles, Unsettles}
 use Rattle.model.specs.State.{plusOne, minusOne, register}
 use Rattle.model.specs.Step.{Machine, instrAt, topOf, enactedOf, stepOf}
-use Rattle.model.proofs.Runs.{by-test}
+use Rattle.slices.proofs.Bools.{by-test}
 use Rattle.rules.specs.Demand.{LastByte, last-byte, LastBack, last-back, LastFits, StepHolds, Bytes}
 use Rattle.rules.specs.Grounds.{callee}
 use Rattle.rules.specs.Sheet.{Listing, described, marked, routine, depth, need, entry, classAt}

@@ -21,7 +21,8 @@ use Rattle.model.specs.declared.Stop.{Stop}
 use Rattle.model.specs.declared.Stop.the-variants.{Halted, Spent, Unsettled, Full}
 use Rattle.model.specs.declared.Verdict.{Verdict}
 use Rattle.model.specs.declared.Verdict.the-variants.{Go, Stopped}
-use Rattle.model.proofs.Runs.{by-test, by-verdict, none-left, run-stops, run-goes}
+use Rattle.slices.proofs.Bools.{by-test}
+use Rattle.model.proofs.Runs.{by-verdict, none-left, run-stops, run-goes}
 use Rattle.model.proofs.Traces.{trace-stops, trace-goes, run-steps}
 use Rattle.rules.specs.Demand.{Tallied, NotUnsettled, NoneUnsettled, Leads, TraceIs, Bytes}
 use Rattle.rules.specs.RunLists.{World, Begin, goOn, anew, Lends, these, others, Call, begun, outcomeBy, outcomeOf, leftBy, Event, starts, steps, stepsIn, beginEvents, callMachine, eventsBy, callEvents, outcomes, events}

@@ -22,7 +22,8 @@ use Rattle.model.specs.declared.Refusal.the-variants.{BadBank, BadPosition, Bad
 use Rattle.model.specs.declared.State.{State}
 use Rattle.model.specs.declared.Stop.{Stop}
 use Rattle.model.specs.declared.Verdict.the-variants.{Go, Stopped}
-use Rattle.model.proofs.Runs.{by-test, by-verdict, none-left, run-stops, run-goes}
+use Rattle.slices.proofs.Bools.{by-test}
+use Rattle.model.proofs.Runs.{by-verdict, none-left, run-stops, run-goes}
 use Rattle.model.proofs.Traces.{trace-stops, trace-goes}
 use Rattle.rules.specs.Demand.{last-byte, last-back, LastFits, Bytes, AgreeAt, addressesOf, storedBy, Alike, AlikeBy, AllAlike}
 use Rattle.rules.specs.RunLists.{World, Begin, goOn, anew, Lends, these, others, Call, begun, outcomeBy, outcomeOf, leftBy, Event, starts, steps, stepsIn, beginEvents, callMachine, eventsBy, callEvents}
