@@ -20,22 +20,23 @@ fn high_nibble(x: u8) -> u8
 }
 
 // The form of an opcode whose upper six bits are g. Each of the 64 has an arm, so that the match
-// becomes one jump.
-fn form(g: u8, a: u8, f: u8, b: u8, i: u8) -> Instr
+// becomes one jump. The function and Rb, which few forms have, are cut in the arms of these, so
+// that the run's loop holds fewer values.
+fn form(g: u8, a: u8, i: u8) -> Instr
     requires { ⌜ g < 64 ⌝ }
-    ensures { λ r. ⌜ r ≡ formOf (g / 4) (g % 4) a f b i ⌝ }
+    ensures { λ r. ⌜ r ≡ formOf (g / 4) (g % 4) a (i / 16) (i % 4) i ⌝ }
 {
     let d = low_pair(g);
     match g {
-        0 => Instr::Alu(d, a, f, b),
-        1 => Instr::Alu(d, a, f, b),
-        2 => Instr::Alu(d, a, f, b),
-        3 => Instr::Alu(d, a, f, b),
+        0 => Instr::Alu(d, a, high_nibble(i), low_pair(i)),
+        1 => Instr::Alu(d, a, high_nibble(i), low_pair(i)),
+        2 => Instr::Alu(d, a, high_nibble(i), low_pair(i)),
+        3 => Instr::Alu(d, a, high_nibble(i), low_pair(i)),
         4 => Instr::AddImm(d, a, i),
         5 => Instr::AddImm(d, a, i),
         6 => Instr::AddImm(d, a, i),
         7 => Instr::AddImm(d, a, i),
-        8 => Instr::AluNone(a, f, b),
+        8 => Instr::AluNone(a, high_nibble(i), low_pair(i)),
         9 => Instr::CmpImm(a, i),
         10 => Instr::MaskImm(a, i),
         11 => Instr::MaskIn(i),
@@ -49,7 +50,7 @@ fn form(g: u8, a: u8, f: u8, b: u8, i: u8) -> Instr
         19 => Instr::MovIn(d),
         20 => Instr::Ack,
         21 => Instr::StoreAddr(a, i),
-        22 => Instr::StoreReg(a, b),
+        22 => Instr::StoreReg(a, low_pair(i)),
         23 => Instr::Push(a),
         24 => Instr::LoadAddr(d, i),
         25 => Instr::LoadAddr(d, i),
@@ -98,11 +99,5 @@ fn form(g: u8, a: u8, f: u8, b: u8, i: u8) -> Instr
 pub fn decode(opcode: u8, argument: u8) -> Instr
     ensures { λ r. ⌜ Decodes opcode argument r ⌝ }
 {
-    form(
-        opcode >> 2,
-        low_pair(opcode),
-        high_nibble(argument),
-        low_pair(argument),
-        argument,
-    )
+    form(opcode >> 2, low_pair(opcode), argument)
 }

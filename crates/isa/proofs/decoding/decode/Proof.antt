@@ -16,14 +16,11 @@ decode-spec =
     (tie.spec
     (λ c κs. search needs)
     (λ c κs. search needs)
-    (λ c κs. search needs)
-    (λ c κs. search needs)
     (λ c.
-    let s = c .before .before .before .before in
+    let s = c .before .before in
     let op = s .args .opcode in
     let arg = s .args .argument in
     let e : op / 4 / 4 ≡ op / 16 = omega arith in
     let t : c .form .result ≡ decodeOf op arg =
-    rw (← c .before .low-pair2 .ensures, ← c .before .before .high-nibble .ensures, ← c .before .before .before .low-pair .ensures, ← e)
-    (c .form .ensures) in
+    rw (← c .before .low-pair .ensures, ← e) (c .form .ensures) in
     record { table = t; writes-back = rw t (decode-encode op arg (s .fits .opcode .fits) (s .fits .argument .fits)) }))

@@ -1,4 +1,4 @@
--- At each number of the upper six bits the table is searched by computing.
+-- At each number of the upper six bits the table is searched by computing; the fields are those that the arm has cut.
 -- Assumes nothing.
 use mathlib.Core.Path.{_≡_}
 use native.Mathlib.Omega.{arith}
@@ -14,15 +14,26 @@ form-spec =
     tie.close
     (tie.spec
     (λ c κs. search needs)
-    (λ c. rw (c .before .low-pair .ensures, c .match .keys1))
-    (λ c. rw (c .before .low-pair .ensures, c .match .keys2))
-    (λ c. rw (c .before .low-pair .ensures, c .match .keys3))
-    (λ c. rw (c .before .low-pair .ensures, c .match .keys4))
+    (λ c κs. search needs)
+    (λ c κs. search needs)
+    (λ c κs. search needs)
+    (λ c κs. search needs)
+    (λ c κs. search needs)
+    (λ c κs. search needs)
+    (λ c κs. search needs)
+    (λ c κs. search needs)
+    (λ c κs. search needs)
+    (λ c κs. search needs)
+    (λ c κs. search needs)
+    (λ c. rw (c .low-pair2 .ensures, c .before .high-nibble .ensures, c .before .before .before .low-pair .ensures, c .before .before .match .keys1))
+    (λ c. rw (c .low-pair3 .ensures, c .before .high-nibble2 .ensures, c .before .before .before .low-pair .ensures, c .before .before .match .keys2))
+    (λ c. rw (c .low-pair4 .ensures, c .before .high-nibble3 .ensures, c .before .before .before .low-pair .ensures, c .before .before .match .keys3))
+    (λ c. rw (c .low-pair5 .ensures, c .before .high-nibble4 .ensures, c .before .before .before .low-pair .ensures, c .before .before .match .keys4))
     (λ c. rw (c .before .low-pair .ensures, c .match .keys5))
     (λ c. rw (c .before .low-pair .ensures, c .match .keys6))
     (λ c. rw (c .before .low-pair .ensures, c .match .keys7))
     (λ c. rw (c .before .low-pair .ensures, c .match .keys8))
-    (λ c. rw (c .match .keys9))
+    (λ c. rw (c .low-pair6 .ensures, c .before .high-nibble5 .ensures, c .before .before .match .keys9))
     (λ c. rw (c .match .keys10))
     (λ c. rw (c .match .keys11))
     (λ c. rw (c .match .keys12))
@@ -36,7 +47,7 @@ form-spec =
     (λ c. rw (c .before .low-pair .ensures, c .match .keys20))
     (λ c. rw (c .match .keys21))
     (λ c. rw (c .match .keys22))
-    (λ c. rw (c .match .keys23))
+    (λ c. rw (c .low-pair7 .ensures, c .before .match .keys23))
     (λ c. rw (c .match .keys24))
     (λ c. rw (c .before .low-pair .ensures, c .match .keys25))
     (λ c. rw (c .before .low-pair .ensures, c .match .keys26))
