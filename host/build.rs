@@ -1,4 +1,4 @@
-//! Links the proved library, `libboundary.a` and `libadmission.a`.
+//! Links the proved library: `libboundary.a`, `libruns.a` and `libadmission.a`.
 //!
 //! They are looked for in `../target/staticlib`, or in the directory that `CESCA_LIB` names.
 
@@ -6,7 +6,7 @@ use std::env;
 use std::path::{Path, PathBuf};
 
 /// The crates whose archives are linked.
-const CRATES: [&str; 2] = ["boundary", "admission"];
+const CRATES: [&str; 3] = ["boundary", "runs", "admission"];
 
 fn main() {
     println!("cargo:rerun-if-env-changed=CESCA_LIB");

@@ -100,9 +100,9 @@ pub extern "C" fn cesca_facts(fields: Fields) -> FactNumbers
     numbers::fact_numbers(isa::cycles(instr), class, facts.1)
 }
 
-// A run's report, or the number of a refusal that leaves everything lent as it was.
-#[no_mangle]
-pub extern "C" fn cesca_run(
+// A run's report, or the number of a refusal that leaves everything lent as it was. Crate `runs`
+// exports it.
+pub fn run(
     opcodes: &[u8],
     arguments: &[u8],
     keys: &[u8],
@@ -122,8 +122,8 @@ pub extern "C" fn cesca_run(
 }
 
 // The tenths of a second that so many cycles take at a clock in Hz, or the number of a refusal.
-#[no_mangle]
-pub extern "C" fn cesca_running_time(cycles: u32, clock: u32) -> TimeNumbers
+// Crate `runs` exports it.
+pub fn running_time(cycles: u32, clock: u32) -> TimeNumbers
     ensures { λ r. ⌜ r ≡ timeNumbers (timeOf cycles clock) ⌝ }
 {
     runs::time_numbers(machine::running_time(cycles, clock))

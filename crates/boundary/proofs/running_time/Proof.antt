@@ -3,11 +3,11 @@
 use mathlib.Core.Path.{ap, _∙_}
 use Rattle.boundary.specs.Runs.{timeNumbers}
 use borrow.Author.Needs.{needs}
-use Rattle.boundary.proofs.cesca_running_time.Statement.{statement}
-use Rattle.boundary.proofs.cesca_running_time.Tie as tie
+use Rattle.boundary.proofs.running_time.Statement.{statement}
+use Rattle.boundary.proofs.running_time.Tie as tie
 
-pub cesca-running-time-spec : {M : Type 1} → statement M
-cesca-running-time-spec =
+pub running-time-spec : {M : Type 1} → statement M
+running-time-spec =
     tie.close
     (tie.spec
     (λ c κs. search needs)

@@ -4,11 +4,11 @@ use mathlib.Core.Path.{_≡_, ap, _∙_}
 use Rattle.model.specs.Run.{Outcome}
 use Rattle.boundary.specs.Runs.{runNumbers}
 use borrow.Author.Needs.{needs}
-use Rattle.boundary.proofs.cesca_run.Statement.{statement}
-use Rattle.boundary.proofs.cesca_run.Tie as tie
+use Rattle.boundary.proofs.run.Statement.{statement}
+use Rattle.boundary.proofs.run.Tie as tie
 
-pub cesca-run-spec : {M : Type 1} → statement M
-cesca-run-spec =
+pub run-spec : {M : Type 1} → statement M
+run-spec =
     tie.close
     (tie.spec
     (λ c κs. search needs)

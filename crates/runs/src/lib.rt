@@ -1,0 +1,34 @@
+// The machine's exports, in an archive apart from the other exports: decoding and the ALU then have
+// one caller, so that a run's loop holds them and calls nothing.
+use boundary::RunNumbers;
+use boundary::StateNumbers;
+use boundary::TimeNumbers;
+ghost use mathlib.Core.Path.{_≡_};
+ghost use Rattle.model.specs.Run.{callOf};
+ghost use Rattle.model.specs.Time.{timeOf};
+ghost use Rattle.boundary.specs.Runs.{stateOf, timeNumbers, RunNumbered};
+
+// A run's report, or the number of a refusal that leaves everything lent as it was.
+#[no_mangle]
+pub extern "C" fn cesca_run(
+    opcodes: &[u8],
+    arguments: &[u8],
+    keys: &[u8],
+    ram: &mut [u8],
+    stack: &mut [u8],
+    roll: &mut [u16],
+    budget: u32,
+    start: StateNumbers,
+) -> RunNumbers
+    ensures { λ r. ⌜ RunNumbered (callOf (now (opcodes .entry)) (now (arguments .entry)) (now (keys .entry)) budget (stateOf start) (now (ram .entry)) (now (stack .entry)) (now (roll .entry))) r (now (ram .exit)) (now (stack .exit)) (now (roll .exit)) ⌝ }
+{
+    boundary::run(opcodes, arguments, keys, ram, stack, roll, budget, start)
+}
+
+// The tenths of a second that so many cycles take at a clock in Hz, or the number of a refusal.
+#[no_mangle]
+pub extern "C" fn cesca_running_time(cycles: u32, clock: u32) -> TimeNumbers
+    ensures { λ r. ⌜ r ≡ timeNumbers (timeOf cycles clock) ⌝ }
+{
+    boundary::running_time(cycles, clock)
+}
