@@ -1,6 +1,6 @@
 //! CESCA's admission desk and machine for Rust programs: a safe function for each one that the
 //! proved library exports, an independent [`mod@reference`] to hold them against, and a [`plain`]
-//! machine to measure them by.
+//! and a [`predecoded`] machine to measure them by.
 //!
 //! ```
 //! let mov = cesca_host::decode([0x30, 0x05]); // mov R0, 5
@@ -49,6 +49,7 @@ mod answers;
 mod ground;
 mod machine;
 pub mod plain;
+pub mod predecoded;
 mod raw;
 pub mod reference;
 

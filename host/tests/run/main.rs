@@ -1,4 +1,5 @@
-//! Runs and running times: the library beside the reference, by hand and at random.
+//! Runs and running times: the library and the machines it is measured by beside the reference,
+//! by hand and at random.
 
 mod by_hand;
 mod case;
@@ -16,14 +17,15 @@ mod tally;
 mod time;
 mod transfers;
 
-use cesca_host::{plain, reference, Lent, Report, RunRefusal, State};
+use cesca_host::{plain, predecoded, reference, Lent, Report, RunRefusal, State};
 
 /// A machine: what a run reports, or why it is refused.
 type Machine = fn(Lent<'_>, u32, State) -> Result<Report, RunRefusal>;
 
-/// The three machines by name.
-const MACHINES: [(&str, Machine); 3] = [
+/// The machines by name.
+const MACHINES: [(&str, Machine); 4] = [
     ("the library", cesca_host::run),
     ("the reference", reference::run),
     ("the plain machine", plain::run),
+    ("the predecoded machine", predecoded::run),
 ];

@@ -1,11 +1,11 @@
-//! Random runs, the library and the plain machine beside the reference.
+//! Random runs, the library and the machines it is measured by beside the reference.
 
 use crate::case::Case;
 use crate::memory::Memory;
 use crate::random::each_case;
 use crate::tally::Tally;
 use crate::Machine;
-use cesca_host::{plain, reference};
+use cesca_host::{plain, predecoded, reference};
 
 /// The calls made of each machine.
 const CASES: u64 = 250_000;
@@ -51,4 +51,9 @@ fn the_library_runs_as_the_reference() {
 #[test]
 fn the_plain_machine_runs_as_the_reference() {
     check(plain::run);
+}
+
+#[test]
+fn the_predecoded_machine_runs_as_the_reference() {
+    check(predecoded::run);
 }

@@ -1,6 +1,12 @@
 //! Listings to admit or to refuse, early and late.
 
-use cesca_host::reference::{Listing, BANK};
+use cesca_host::reference::{Listing, SheetWord, BANK};
+
+/// The entry of the last routine of a listing full of calls.
+const LAST_ENTRY: u8 = 252;
+
+/// The calls of such a listing.
+pub const CALLS: usize = 189;
 
 /// Every address described: four routines that call one another, all kinds of instructions.
 const FULL: &str = "
@@ -42,4 +48,55 @@ pub fn listings() -> [(&'static str, Listing); 5] {
         ("refused 4 at 0", full().with_sheet(0, 0x0001)),
         ("refused 16 at 254", full().with_word(254, [0xD8, 0x00])), // jlt 0
     ]
+}
+
+/// A listing of 2 to 64 routines: the last returns at once, and three words in every four of the
+/// others call it. The words are the same for any number of routines.
+pub fn calls(routines: u8) -> Listing {
+    let last = routines - 1;
+    let routine = |at: u8| (u16::from(at / 4) * u16::from(last) / 63) as u8;
+    let entry = |number: u8| (0..=LAST_ENTRY).find(|at| routine(*at) == number);
+    let list = (0..routines).flat_map(|number| {
+        [entry(number).expect("routines of four words at least"), u8::from(number < last)]
+    });
+    let listing = Listing::blank().with_list(&list.collect::<Vec<u8>>());
+    (0..=255).fold(listing, |listing, at| {
+        let sheet = SheetWord::new(routine(at), 0, false).0;
+        listing.with_word(at, call_or_end(at)).with_sheet(at, sheet)
+    })
+}
+
+/// The word at an address of such a listing: a call of the last routine, a jump back to the first
+/// of four addresses, or the last routine's `ret`.
+fn call_or_end(at: u8) -> [u8; 2] {
+    match at {
+        LAST_ENTRY.. => [0xAC, 0x00],
+        _ if at % 4 == 3 => [0xA0, at - 3],
+        _ => [0xA8, LAST_ENTRY],
+    }
+}
+
+#[cfg(test)]
+mod tests {
+    use super::*;
+
+    #[test]
+    fn the_names_tell_the_answers() {
+        for (name, listing) in listings() {
+            let found = listing.admit().map_err(|ground| format!("refused {ground}"));
+            let refused = name.starts_with("refused");
+            let wanted = if refused { Err(name.to_string()) } else { Ok(()) };
+            assert_eq!(found, wanted);
+        }
+    }
+
+    #[test]
+    fn calls_are_admitted() {
+        for routines in 2..=64 {
+            let listing = calls(routines);
+            assert_eq!(listing.admit(), Ok(()), "{routines}");
+            assert_eq!(listing.list.len(), 2 * usize::from(routines));
+            assert_eq!(listing.opcodes.iter().filter(|opcode| **opcode == 0xA8).count(), CALLS);
+        }
+    }
 }

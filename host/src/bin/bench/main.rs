@@ -1,12 +1,26 @@
-//! Speed of the library: runs beside the plain machine, admissions beside the reference.
+//! Speed of the library: runs beside two machines in Rust, admissions beside the reference, and
+//! how both grow.
 
 mod admissions;
+mod columns;
+mod growth;
 mod listings;
+mod machines;
 mod programs;
 mod runs;
+mod short;
+#[allow(dead_code)]
+#[path = "../../../tests/common/stored.rs"]
+mod stored;
+mod timing;
 
 fn main() {
-    runs::table();
-    println!();
-    admissions::table();
+    let tables =
+        [runs::table, short::table, growth::steps_table, growth::routines_table, admissions::table];
+    for (number, table) in tables.into_iter().enumerate() {
+        if number > 0 {
+            println!();
+        }
+        table();
+    }
 }

@@ -1,145 +1,61 @@
-//! Programs that go on for ever, each heavy in another way.
+//! Programs to run: some that go on for ever, each heavy in another way, and the stored listings.
 
-/// The programs by name, their words from address 0.
-pub const PROGRAMS: [(&str, &[[u8; 2]]); 5] =
-    [("mix", MIX), ("alu", ALU), ("stack", STACK), ("jumps", JUMPS), ("memory", MEMORY)];
+mod texts;
 
-/// Products of keys, data and a counter, some of them shown.
-const MIX: &[[u8; 2]] = &[
-    [0x3C, 0x00], //  0 mov R3, 0
-    [0x40, 0x00], //  1 mov R0, IN
-    [0x50, 0x00], //  2 mov IN, Ack
-    [0x77, 0x00], //  3 mov R1, [R3]
-    [0x00, 0x11], //  4 add R0, R0, R1
-    [0x04, 0x03], //  5 mov R1, R3
-    [0xA8, 0x10], //  6 call 16
-    [0x58, 0x03], //  7 mov [R3], R0
-    [0x24, 0x64], //  8 cmp R0, 100
-    [0xD8, 0x0C], //  9 jlt 12
-    [0xF0, 0x00], // 10 mov OUT, R0
-    [0xE8, 0x00], // 11 mov LCD, R0
-    [0x1F, 0x01], // 12 add R3, R3, 1
-    [0xB4, 0x01], // 13 jnz 1
-    [0xE0, 0x01], // 14 mov LCDcmd, 1
-    [0xA0, 0x00], // 15 jmp 0
-    [0x5E, 0x00], // 16 push R2: R0 times R1 from here
-    [0x5F, 0x00], // 17 push R3
-    [0x38, 0x00], // 18 mov R2, 0
-    [0x3C, 0x08], // 19 mov R3, 8
-    [0x29, 0x01], // 20 mask R1, 1
-    [0xB0, 0x17], // 21 jz 23
-    [0x0A, 0x10], // 22 add R2, R2, R0
-    [0x05, 0xD0], // 23 srl R1, R1
-    [0x00, 0xC0], // 24 sll R0, R0
-    [0x1F, 0xFF], // 25 add R3, R3, 255
-    [0xB4, 0x14], // 26 jnz 20
-    [0x00, 0x02], // 27 mov R0, R2
-    [0x8C, 0x00], // 28 pop R3
-    [0x88, 0x00], // 29 pop R2
-    [0xAC, 0x00], // 30 ret
-];
+use crate::stored;
+use cesca_host::reference::Listing;
+pub use texts::{ALU, MIX};
+use texts::{BRANCHES, CALLS, MEMORY};
 
-/// All functions of the ALU, one after another.
-const ALU: &[[u8; 2]] = &[
-    [0x30, 0x01], //  0 mov R0, 1
-    [0x34, 0x35], //  1 mov R1, 0x35
-    [0x38, 0xC6], //  2 mov R2, 0xC6
-    [0x3C, 0x7F], //  3 mov R3, 0x7F
-    [0x00, 0x11], //  4 add R0, R0, R1
-    [0x05, 0x32], //  5 addc R1, R1, R2
-    [0x0A, 0x23], //  6 sub R2, R2, R3
-    [0x0F, 0x40], //  7 subb R3, R3, R0
-    [0x20, 0x52], //  8 and NONE, R0, R2
-    [0x05, 0x83], //  9 xor R1, R1, R3
-    [0x00, 0x62], // 10 or R0, R0, R2
-    [0x0A, 0x70], // 11 not R2, R2
-    [0x0F, 0x91], // 12 nand R3, R3, R1
-    [0x00, 0xA1], // 13 nor R0, R0, R1
-    [0x0A, 0xB0], // 14 xnor R2, R2, R0
-    [0x05, 0xC0], // 15 sll R1, R1
-    [0x0F, 0xD0], // 16 srl R3, R3
-    [0x0A, 0xE0], // 17 sra R2, R2
-    [0x00, 0xF0], // 18 rol R0, R0
-    [0x04, 0x02], // 19 mov R1, R2
-    [0x15, 0x2D], // 20 add R1, R1, 0x2D
-    [0x26, 0x40], // 21 cmp R2, 0x40
-    [0x2B, 0x0F], // 22 mask R3, 0x0F
-    [0x0F, 0x10], // 23 add R3, R3, R0
-    [0x00, 0x81], // 24 xor R0, R0, R1
-    [0x0A, 0x21], // 25 sub R2, R2, R1
-    [0x0F, 0xF0], // 26 rol R3, R3
-    [0x10, 0x9D], // 27 add R0, R0, 0x9D
-    [0xA0, 0x04], // 28 jmp 4
-];
+/// The programs that go on for ever, by name.
+pub fn endless() -> Vec<(String, Listing)> {
+    let texts =
+        [("mix", MIX), ("alu", ALU), ("memory", MEMORY), ("calls", CALLS), ("branches", BRANCHES)];
+    texts.map(|(name, text)| (name.to_string(), Listing::read(text))).into()
+}
 
-/// The twelfth Fibonacci number by recursion.
-const STACK: &[[u8; 2]] = &[
-    [0x30, 0x0C], //  0 mov R0, 12
-    [0xA8, 0x07], //  1 call 7
-    [0x5C, 0x00], //  2 push R0
-    [0x95, 0x00], //  3 swap R1, R1
-    [0x80, 0x00], //  4 pop R0
-    [0xF0, 0x00], //  5 mov OUT, R0
-    [0xA0, 0x00], //  6 jmp 0
-    [0x24, 0x02], //  7 cmp R0, 2: the R0th number from here
-    [0xB8, 0x13], //  8 jc 19
-    [0x5E, 0x00], //  9 push R2
-    [0x18, 0xFE], // 10 add R2, R0, 254
-    [0x10, 0xFF], // 11 add R0, R0, 255
-    [0xA8, 0x07], // 12 call 7
-    [0x5C, 0x00], // 13 push R0
-    [0x00, 0x02], // 14 mov R0, R2
-    [0xA8, 0x07], // 15 call 7
-    [0x88, 0x00], // 16 pop R2
-    [0x00, 0x12], // 17 add R0, R0, R2
-    [0x88, 0x00], // 18 pop R2
-    [0xAC, 0x00], // 19 ret
-];
+/// The stored listings that are admitted, by name.
+pub fn stored() -> Vec<(String, Listing)> {
+    let directory = stored::path("../listings");
+    let names = stored::names(&directory, ".bin").into_iter();
+    let listings = names.map(|name| {
+        let file = directory.join(&name).with_extension("bin");
+        (name, Listing::cut(&stored::read(&file)))
+    });
+    listings.filter(|(_, listing)| listing.admit().is_ok()).collect()
+}
 
-/// Every conditional jump, after a comparison that comes out in many ways.
-const JUMPS: &[[u8; 2]] = &[
-    [0x10, 0x4D], //  0 add R0, R0, 0x4D
-    [0x24, 0x64], //  1 cmp R0, 100
-    [0xB0, 0x04], //  2 jz 4
-    [0xB8, 0x05], //  3 jc 5
-    [0xBC, 0x06], //  4 jnc 6
-    [0xB4, 0x06], //  5 jnz 6
-    [0xD8, 0x08], //  6 jlt 8
-    [0xCC, 0x09], //  7 jp 9
-    [0xDC, 0x0A], //  8 jle 10
-    [0xD0, 0x0B], //  9 jgz 11
-    [0xC8, 0x0C], // 10 jlz 12
-    [0xD4, 0x0D], // 11 jleu 13
-    [0xC0, 0x0E], // 12 jv 14
-    [0xC4, 0x0F], // 13 jnv 15
-    [0xA0, 0x0F], // 14 jmp 15
-    [0xA0, 0x00], // 15 jmp 0
-];
+#[cfg(test)]
+mod tests {
+    use super::*;
+    use crate::machines::Bench;
+    use cesca_host::reference::{run_watched, Form, BANK};
+    use cesca_host::{Class, Lent, State, Stop, MOST_STEPS};
+    use std::collections::HashSet;
 
-/// 64 data bytes, filled and sorted again and again.
-const MEMORY: &[[u8; 2]] = &[
-    [0x30, 0x00], //  0 mov R0, 0
-    [0x15, 0x4D], //  1 add R1, R1, 0x4D
-    [0x05, 0xF0], //  2 rol R1, R1
-    [0x59, 0x00], //  3 mov [R0], R1
-    [0x10, 0x01], //  4 add R0, R0, 1
-    [0x24, 0x40], //  5 cmp R0, 64
-    [0xB4, 0x01], //  6 jnz 1
-    [0x3C, 0x3F], //  7 mov R3, 63
-    [0x30, 0x00], //  8 mov R0, 0
-    [0x74, 0x00], //  9 mov R1, [R0]
-    [0x10, 0x01], // 10 add R0, R0, 1
-    [0x78, 0x00], // 11 mov R2, [R0]
-    [0x22, 0x21], // 12 sub NONE, R2, R1
-    [0xBC, 0x12], // 13 jnc 18
-    [0x59, 0x00], // 14 mov [R0], R1
-    [0x10, 0xFF], // 15 add R0, R0, 255
-    [0x5A, 0x00], // 16 mov [R0], R2
-    [0x10, 0x01], // 17 add R0, R0, 1
-    [0x20, 0x23], // 18 sub NONE, R0, R3
-    [0xB4, 0x09], // 19 jnz 9
-    [0x1F, 0xFF], // 20 add R3, R3, 255
-    [0xB4, 0x08], // 21 jnz 8
-    [0xF4, 0x00], // 22 mov OUT, [0]
-    [0xA0, 0x00], // 23 jmp 0
-];
+    #[test]
+    fn the_endless_ones_spend_their_budget_and_the_stored_ones_halt() {
+        let stop = |program: &Listing| Bench::library(program).run(MOST_STEPS).stop;
+        assert!(endless().iter().all(|(_, program)| stop(program) == Stop::Spent));
+        assert!(stored().iter().all(|(_, program)| stop(program) == Stop::Halted));
+        assert!(stored().len() >= 7);
+    }
+
+    #[test]
+    fn every_branch_is_taken_and_untaken() {
+        let Listing { opcodes, arguments, .. } = &Listing::read(BRANCHES);
+        let (ram, stack) = (&mut [0; BANK], &mut [0; BANK]);
+        let lent = Lent { opcodes, arguments, keys: &[], ram, stack, roll: &mut [] };
+        let mut met = HashSet::new();
+        let report = run_watched(lent, 10_000, State::start(), |step| {
+            let taken = step.after.pc != step.before.pc + 1;
+            met.insert((step.instruction.form.row(), taken));
+        });
+        assert_eq!(report.map(|report| report.stop), Ok(Stop::Spent));
+        let branches = Form::ALL.into_iter().filter(|form| form.class() == Class::Branch);
+        for form in branches {
+            let both = [true, false].map(|taken| met.contains(&(form.row(), taken)));
+            assert_eq!(both, [true, true], "{}", form.mnemonic());
+        }
+    }
+}

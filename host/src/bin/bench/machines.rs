@@ -1,0 +1,85 @@
+//! The three machines on one program, each with buffers of its own.
+
+use crate::timing::{medians, timed};
+use cesca_host::reference::{Listing, BANK};
+use cesca_host::{plain, predecoded, run, Lent, Report, RunRefusal, State};
+use std::hint::black_box;
+
+/// The words of the roll, more than a program here writes.
+const ROLL: usize = 100_000;
+
+/// A machine: what a run reports, or why it is refused.
+type Machine = fn(Lent<'_>, u32, State) -> Result<Report, RunRefusal>;
+
+/// The machines in the order of the tables' columns.
+const MACHINES: [Machine; 3] = [run, plain::run, predecoded::run];
+
+/// A machine with a program and the buffers of its runs, never cleared between them.
+pub struct Bench<'a> {
+    machine: Machine,
+    program: &'a Listing,
+    keys: Vec<u8>,
+    ram: [u8; BANK],
+    stack: [u8; BANK],
+    roll: Vec<u16>,
+}
+
+/// What the library, the plain machine and the predecoded one took, in the middle of the
+/// repetitions.
+pub struct Turns {
+    /// The seconds of each machine.
+    pub seconds: [f64; 3],
+    /// The library's time over each of the others', repetition by repetition.
+    pub ratios: [f64; 2],
+}
+
+/// The times of so many runs of a program by each machine in turn.
+pub fn in_turn(program: &Listing, budget: u32, runs: u32) -> Turns {
+    let mut benches = MACHINES.map(|machine| Bench::new(machine, program));
+    let [library, plain, predecoded, over_plain, over_predecoded] = medians(|| {
+        let turns = benches.each_mut().map(|bench| bench.timed(budget, runs));
+        let [library, plain, predecoded] = turns.map(|(report, _)| report);
+        assert_eq!(library, plain, "the plain machine reports the same");
+        assert_eq!(library, predecoded, "the predecoded machine reports the same");
+        let [library, plain, predecoded] = turns.map(|(_, seconds)| seconds);
+        [library, plain, predecoded, library / plain, library / predecoded]
+    });
+    Turns { seconds: [library, plain, predecoded], ratios: [over_plain, over_predecoded] }
+}
+
+impl<'a> Bench<'a> {
+    /// The library with a program.
+    pub fn library(program: &'a Listing) -> Bench<'a> {
+        Bench::new(run, program)
+    }
+
+    /// A machine with a program, two hundred keys and nothing in its other buffers.
+    fn new(machine: Machine, program: &'a Listing) -> Bench<'a> {
+        let (ram, stack, roll) = ([0; BANK], [0; BANK], vec![0; ROLL]);
+        Bench { machine, program, keys: (1..=200).collect(), ram, stack, roll }
+    }
+
+    /// The report of a run from the start state.
+    pub fn run(&mut self, budget: u32) -> Report {
+        let lent = Lent {
+            opcodes: &self.program.opcodes,
+            arguments: &self.program.arguments,
+            keys: &self.keys,
+            ram: &mut self.ram,
+            stack: &mut self.stack,
+            roll: &mut self.roll,
+        };
+        let report = (self.machine)(black_box(lent), black_box(budget), black_box(State::start()));
+        black_box(report).expect("nothing to refuse")
+    }
+
+    /// The report of the last of so many runs, and the seconds of all.
+    pub fn timed(&mut self, budget: u32, runs: u32) -> (Report, f64) {
+        timed(|| {
+            for _ in 1..runs {
+                self.run(budget);
+            }
+            self.run(budget)
+        })
+    }
+}
