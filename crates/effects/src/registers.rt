@@ -1,5 +1,5 @@
 // The four registers, an array by value. Here they are read and changed as one number of four
-// bytes, so that the run's loop holds them in one register of the CPU.
+// bytes, which was measured quicker in the run's loop than an arm for each place.
 ghost use mathlib.Core.Path.{_≡_};
 ghost use mathlib.Core.List.{_∷_, []};
 ghost use Prim.Native.Nat.{_+_, _*_, _/_, _%_, _^_, _≤_};
