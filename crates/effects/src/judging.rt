@@ -15,7 +15,9 @@ ghost use lib.Dec.{ltb};
 ghost use lib.ListN.{length, getD};
 ghost use Rattle.model.specs.Plan.{valueOf};
 ghost use Rattle.model.specs.State.{plusOne, minusOne, withRegister, withPc, withSp, withOut, withFlags, withHalted, withPosition};
+ghost use Rattle.isa.specs.Table.{rowOf, opcodeIn};
 ghost use Rattle.effects.specs.Effects.{effect, judgedBy, judgedOf};
+ghost use Rattle.effects.specs.Operands.{IsOperand};
 
 // A next state, and nothing else.
 fn quiet(s: State, n: u8) -> Effect
@@ -223,31 +225,34 @@ fn value(v: Overflow) -> bool
     }
 }
 
-// The effect of an instruction at the state after its fetch.
-pub fn judge(instr: Instr, s: State, keys: &[u8], ram: &[u8], stack: &[u8]) -> Effect
+// The effect of an instruction at the state after its fetch. Ra's byte x comes from the caller, who
+// reads it before the form is known: it has the same two bits in every opcode that has an Ra. Read in
+// the arms, the registers did not stay in a CPU register from step to step.
+pub fn judge(instr: Instr, x: u8, s: State, keys: &[u8], ram: &[u8], stack: &[u8]) -> Effect
+    requires { ⌜ IsOperand s x (opcodeIn (rowOf instr)) ⌝ }
     ensures { λ r. ⌜ judgedBy r ≡ judgedOf instr s (getD (now (stack .entry)) (s .sp) 0) (now (ram .entry)) (now (keys .entry)) ⌝ }
 {
     let fl = s.flags;
     let v = fl.v;
     match instr {
-        Instr::Alu(d, a, f, b) => computing(s, d, f, register_of(s, a), register_of(s, b), 4),
-        Instr::AddImm(d, a, i) => computed(s, d, alu::sum(register_of(s, a), i, false), 4),
-        Instr::AluNone(a, f, b) => comparing(s, f, register_of(s, a), register_of(s, b)),
-        Instr::CmpImm(a, i) => flagged(s, alu::difference(register_of(s, a), i, false), 3),
-        Instr::MaskImm(a, i) => flagged(s, alu::plain(register_of(s, a) & i), 3),
+        Instr::Alu(d, a, f, b) => computing(s, d, f, x, register_of(s, b), 4),
+        Instr::AddImm(d, a, i) => computed(s, d, alu::sum(x, i, false), 4),
+        Instr::AluNone(a, f, b) => comparing(s, f, x, register_of(s, b)),
+        Instr::CmpImm(a, i) => flagged(s, alu::difference(x, i, false), 3),
+        Instr::MaskImm(a, i) => flagged(s, alu::plain(x & i), 3),
         Instr::MaskIn(i) => flagged(s, alu::plain(slices::byte_at(keys, s.position) & i), 5),
         Instr::MovImm(d, i) => moved(s, d, i, 3),
         Instr::MovIn(d) => moved(s, d, slices::byte_at(keys, s.position), 4),
         Instr::Ack => acknowledged(s, keys),
-        Instr::StoreAddr(a, i) => stored(s, i, register_of(s, a), 4),
-        Instr::StoreReg(a, b) => stored(s, register_of(s, b), register_of(s, a), 5),
-        Instr::Push(a) => pushed(s, register_of(s, a), 5),
+        Instr::StoreAddr(a, i) => stored(s, i, x, 4),
+        Instr::StoreReg(a, b) => stored(s, register_of(s, b), x, 5),
+        Instr::Push(a) => pushed(s, x, 5),
         Instr::LoadAddr(d, i) => moved(s, d, load(ram, i), 4),
-        Instr::LoadReg(d, a) => moved(s, d, load(ram, register_of(s, a)), 4),
+        Instr::LoadReg(d, a) => moved(s, d, load(ram, x), 4),
         Instr::Pop(d) => popped(s, d, load(stack, s.sp)),
-        Instr::Swap(d, a) => swapped(s, d, load(stack, s.sp), register_of(s, a)),
+        Instr::Swap(d, a) => swapped(s, d, load(stack, s.sp), x),
         Instr::Jmp(i) => jumped(true, s, i),
-        Instr::JmpReg(a) => jumped(true, s, register_of(s, a)),
+        Instr::JmpReg(a) => jumped(true, s, x),
         Instr::Call(i) => called(s, i),
         Instr::Ret => returned(s, load(stack, s.sp)),
         Instr::Jz(i) => jumped(fl.z, s, i),
@@ -264,9 +269,9 @@ pub fn judge(instr: Instr, s: State, keys: &[u8], ram: &[u8], stack: &[u8]) -> E
         Instr::Jle(i) => branched((value(v) ^ fl.s) | fl.z, s, i),
         Instr::LcdCmd(i) => sent(s, 256 + word(i), 3),
         Instr::LcdImm(i) => sent(s, word(i), 3),
-        Instr::LcdReg(a) => sent(s, word(register_of(s, a)), 3),
+        Instr::LcdReg(a) => sent(s, word(x), 3),
         Instr::LcdMem(i) => sent(s, word(load(ram, i)), 4),
-        Instr::OutReg(a) => shown(s, register_of(s, a), 3),
+        Instr::OutReg(a) => shown(s, x, 3),
         Instr::OutMem(i) => shown(s, load(ram, i), 4),
         Instr::Hlt => quiet(states::to_halted(s, true), 2),
         Instr::Nop => quiet(s, 8),

@@ -6,7 +6,7 @@ ghost use Rattle.isa.specs.Decode.{formOf};
 ghost use Rattle.isa.specs.RoundTrip.{Decodes};
 
 // Bits 1 and 0: Ra of an opcode, Rb of an argument; of an opcode's upper six bits, Rd.
-fn low_pair(x: u8) -> u8
+pub fn low_pair(x: u8) -> u8
     ensures { λ r. ⌜ r ≡ x % 4 ⌝ }
 {
     x & 3

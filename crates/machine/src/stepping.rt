@@ -2,6 +2,7 @@
 use super::Turn;
 use effects::Act;
 use effects::states;
+use isa::decoding::low_pair;
 use model::State;
 use model::Stop;
 use model::Verdict;
@@ -59,9 +60,11 @@ pub fn step(
         };
     }
     let pc = s.pc;
+    let opcode = slices::load(opcodes, pc);
+    let x = states::register_of(s, low_pair(opcode));
+    let instr = isa::decode(opcode, slices::load(arguments, pc));
     let fetched = states::to_pc(s, std::num::wrapping_add_u8(pc, 1));
-    let instr = isa::decode(slices::load(opcodes, pc), slices::load(arguments, pc));
-    let e = effects::judge(instr, fetched, keys, ram, stack);
+    let e = effects::judge(instr, x, fetched, keys, ram, stack);
     let n = wide(e.cycles);
     let act = e.act;
     let next = e.state;

@@ -7,22 +7,22 @@ use Rattle.effects.proofs.judging.judge.Statement.{statement}
 use Rattle.effects.proofs.judging.judge.Tie as tie
 
 returns : tie.Need-returns
-returns c = rw (c .before .before .before .before .instr .given .1, c .computing .ensures, c .before .register-of2 .ensures, c .before .before .register-of .ensures)
+returns c = let h = rw (c .before .before .before .instr .given .1) at (c .before .before .before .before .before .before .before .before .before .pre) in rw (c .before .before .before .instr .given .1, c .computing .ensures, c .before .register-of .ensures, h)
 
 returns-2 : tie.Need-returns-2
 unfolding aluOf
-returns-2 c = rw (c .before .before .before .before .instr2 .given .1, c .computed .ensures, c .before .sum .ensures, c .before .before .register-of3 .ensures)
+returns-2 c = let h = rw (c .before .before .before .instr2 .given .1) at (c .before .before .before .before .before .before .before .before .before .pre) in rw (c .before .before .before .instr2 .given .1, c .computed .ensures, c .before .sum .ensures, h)
 
 returns-3 : tie.Need-returns-3
-returns-3 c = rw (c .before .before .before .before .instr3 .given .1, c .comparing .ensures .0, c .before .register-of5 .ensures, c .before .before .register-of4 .ensures, set-out (c .before .before .before .before .before .before .before .before .before .before .args .s .regs) 4 _ (c .comparing .ensures .1))
+returns-3 c = let h = rw (c .before .before .before .instr3 .given .1) at (c .before .before .before .before .before .before .before .before .before .pre) in rw (c .before .before .before .instr3 .given .1, c .comparing .ensures .0, c .before .register-of2 .ensures, h, set-out (c .before .before .before .before .before .before .before .before .before .args .s .regs) 4 _ (c .comparing .ensures .1))
 
 returns-4 : tie.Need-returns-4
 unfolding aluOf
-returns-4 c = rw (c .before .before .before .before .instr4 .given .1, c .flagged .ensures, c .before .difference .ensures, c .before .before .register-of6 .ensures)
+returns-4 c = let h = rw (c .before .before .before .instr4 .given .1) at (c .before .before .before .before .before .before .before .before .before .pre) in rw (c .before .before .before .instr4 .given .1, c .flagged .ensures, c .before .difference .ensures, h)
 
 returns-5 : tie.Need-returns-5
 unfolding aluOf
-returns-5 c = rw (c .before .before .before .before .instr5 .given .1, c .flagged2 .ensures, c .before .plain .ensures, c .before .before .register-of7 .ensures)
+returns-5 c = let h = rw (c .before .before .before .instr5 .given .1) at (c .before .before .before .before .before .before .before .before .before .pre) in rw (c .before .before .before .instr5 .given .1, c .flagged2 .ensures, c .before .plain .ensures, h)
 
 returns-6 : tie.Need-returns-6
 unfolding aluOf
@@ -38,31 +38,31 @@ returns-9 : tie.Need-returns-9
 returns-9 c = rw (c .before .enum-told .given .1, c .acknowledged .ensures)
 
 returns-10 : tie.Need-returns-10
-returns-10 c = rw (c .before .before .before .instr9 .given .1, c .stored .ensures, c .before .register-of8 .ensures)
+returns-10 c = let h = rw (c .before .before .instr9 .given .1) at (c .before .before .before .before .before .before .before .before .pre) in rw (c .before .before .instr9 .given .1, c .stored .ensures, h)
 
 returns-11 : tie.Need-returns-11
-returns-11 c = rw (c .before .before .before .before .instr10 .given .1, c .stored2 .ensures, c .before .register-of10 .ensures, c .before .before .register-of9 .ensures)
+returns-11 c = let h = rw (c .before .before .before .instr10 .given .1) at (c .before .before .before .before .before .before .before .before .before .pre) in rw (c .before .before .before .instr10 .given .1, c .stored2 .ensures, c .before .register-of3 .ensures, h)
 
 returns-12 : tie.Need-returns-12
-returns-12 c = rw (c .before .before .before .instr11 .given .1, c .pushed .ensures, c .before .register-of11 .ensures)
+returns-12 c = let h = rw (c .before .before .instr11 .given .1) at (c .before .before .before .before .before .before .before .before .pre) in rw (c .before .before .instr11 .given .1, c .pushed .ensures, h)
 
 returns-13 : tie.Need-returns-13
 returns-13 c = rw (c .before .before .before .instr12 .given .1, c .moved3 .ensures, c .before .load .ensures)
 
 returns-14 : tie.Need-returns-14
-returns-14 c = rw (c .before .before .before .before .instr13 .given .1, c .moved4 .ensures, c .before .load2 .ensures, c .before .before .register-of12 .ensures)
+returns-14 c = let h = rw (c .before .before .before .instr13 .given .1) at (c .before .before .before .before .before .before .before .before .before .pre) in rw (c .before .before .before .instr13 .given .1, c .moved4 .ensures, c .before .load2 .ensures, h)
 
 returns-15 : tie.Need-returns-15
 returns-15 c = rw (c .before .before .before .instr14 .given .1, c .popped .ensures, c .before .load3 .ensures)
 
 returns-16 : tie.Need-returns-16
-returns-16 c = rw (c .before .before .before .before .instr15 .given .1, c .swapped .ensures, c .before .register-of13 .ensures, c .before .before .load4 .ensures)
+returns-16 c = let h = rw (c .before .before .before .instr15 .given .1) at (c .before .before .before .before .before .before .before .before .before .pre) in rw (c .before .before .before .instr15 .given .1, c .swapped .ensures, h, c .before .load4 .ensures)
 
 returns-17 : tie.Need-returns-17
 returns-17 c = rw (c .before .before .instr16 .given .1, c .jumped .ensures)
 
 returns-18 : tie.Need-returns-18
-returns-18 c = rw (c .before .before .before .instr17 .given .1, c .jumped2 .ensures, c .before .register-of14 .ensures)
+returns-18 c = let h = rw (c .before .before .instr17 .given .1) at (c .before .before .before .before .before .before .before .before .pre) in rw (c .before .before .instr17 .given .1, c .jumped2 .ensures, h)
 
 returns-19 : tie.Need-returns-19
 returns-19 c = rw (c .before .before .instr18 .given .1, c .called .ensures)
@@ -113,13 +113,13 @@ returns-34 : tie.Need-returns-34
 returns-34 c = rw (c .before .before .before .instr32 .given .1, c .sent2 .ensures, c .before .word2 .ensures)
 
 returns-35 : tie.Need-returns-35
-returns-35 c = rw (c .before .before .before .before .instr33 .given .1, c .sent3 .ensures, c .before .word3 .ensures, c .before .before .register-of15 .ensures)
+returns-35 c = let h = rw (c .before .before .before .instr33 .given .1) at (c .before .before .before .before .before .before .before .before .before .pre) in rw (c .before .before .before .instr33 .given .1, c .sent3 .ensures, c .before .word3 .ensures, h)
 
 returns-36 : tie.Need-returns-36
 returns-36 c = rw (c .before .before .before .before .instr34 .given .1, c .sent4 .ensures, c .before .word4 .ensures, c .before .before .load6 .ensures)
 
 returns-37 : tie.Need-returns-37
-returns-37 c = rw (c .before .before .before .instr35 .given .1, c .shown .ensures, c .before .register-of16 .ensures)
+returns-37 c = let h = rw (c .before .before .instr35 .given .1) at (c .before .before .before .before .before .before .before .before .pre) in rw (c .before .before .instr35 .given .1, c .shown .ensures, h)
 
 returns-38 : tie.Need-returns-38
 returns-38 c = rw (c .before .before .before .instr36 .given .1, c .shown2 .ensures, c .before .load7 .ensures)
@@ -137,21 +137,16 @@ judge-spec =
     (λ c. search needs)
     (λ c κs. search needs)
     (λ c κs. search needs)
-    (λ c κs. search needs)
     (λ c. search needs)
-    (λ c κs. search needs)
-    (λ c κs. search needs)
-    (λ c κs. search needs)
-    (λ c. search needs)
-    (λ c κs. search needs)
     (λ c κs. search needs)
     (λ c κs. search needs)
     (λ c. search needs)
     (λ c κs. search needs)
     (λ c κs. search needs)
-    (λ c κs. search needs)
     (λ c. search needs)
     (λ c κs. search needs)
+    (λ c κs. search needs)
+    (λ c. search needs)
     (λ c κs. search needs)
     (λ c κs. search needs)
     (λ c. search needs)
@@ -167,19 +162,15 @@ judge-spec =
     (λ c κs. search needs)
     (λ c. search needs)
     (λ c κs. search needs)
-    (λ c κs. search needs)
-    (λ c. search needs)
-    (λ c κs. search needs)
-    (λ c κs. search needs)
-    (λ c κs. search needs)
     (λ c. search needs)
     (λ c κs. search needs)
     (λ c κs. search needs)
     (λ c. search needs)
     (λ c κs. search needs)
-    (λ c κs. search needs)
     (λ c. search needs)
     (λ c κs. search needs)
+    (λ c κs. search needs)
+    (λ c. search needs)
     (λ c κs. search needs)
     (λ c κs. search needs)
     (λ c. search needs)
@@ -188,11 +179,9 @@ judge-spec =
     (λ c. search needs)
     (λ c κs. search needs)
     (λ c κs. search needs)
-    (λ c κs. search needs)
     (λ c. search needs)
     (λ c κs. search needs)
     (λ c. search needs)
-    (λ c κs. search needs)
     (λ c κs. search needs)
     (λ c. search needs)
     (λ c κs. search needs)
@@ -237,13 +226,11 @@ judge-spec =
     (λ c. search needs)
     (λ c κs. search needs)
     (λ c κs. search needs)
-    (λ c κs. search needs)
     (λ c. search needs)
     (λ c κs. search needs)
     (λ c κs. search needs)
     (λ c κs. search needs)
     (λ c. search needs)
-    (λ c κs. search needs)
     (λ c κs. search needs)
     (λ c. search needs)
     (λ c κs. search needs)

@@ -8,11 +8,29 @@ use Rattle.model.specs.declared.State.{State}
 use Rattle.model.specs.Step.{instrAt, fetched, enactedOf}
 use Rattle.model.specs.declared.Stop.the-variants.{Unsettled, Full}
 use Rattle.effects.specs.Effects.{judgedBy, judgedOf}
+use Rattle.effects.proofs.OperandsRead.{decoded-operand}
 use Rattle.machine.specs.Turns.{program}
 use Rattle.machine.proofs.TurnsTaken.{turn-asleep, turn-goes, turn-stops}
 use borrow.Author.Needs.{needs}
 use Rattle.machine.proofs.stepping.step.Statement.{statement}
 use Rattle.machine.proofs.stepping.step.Tie as tie
+
+-- what is judged is the instruction at PC, at the state after its fetch
+judged : (c : tie.After-judge)
+    → judgedBy (c .judge .result) ≡ judgedOf (instrAt (program (c .before .before .before .before .before .before .before .before .before .before .before .before .before .before .before .before .before .args .opcodes .now) (c .before .before .before .before .before .before .before .before .before .before .before .before .before .before .before .before .before .args .arguments .now)) (c .before .before .before .before .before .before .before .before .before .before .before .before .before .before .before .before .before .args .s .pc)) (fetched (c .before .before .before .before .before .before .before .before .before .before .before .before .before .before .before .before .before .args .s)) (getD (c .before .before .before .before .before .before .before .before .before .before .before .before .before .before .before .before .before .args .stack .now) (c .before .before .before .before .before .before .before .before .before .before .before .before .before .before .before .before .before .args .s .sp) 0) (c .before .before .before .before .before .before .before .before .before .before .before .before .before .before .before .before .before .args .ram .now) (c .before .before .before .before .before .before .before .before .before .before .before .before .before .before .before .before .before .args .keys .now)
+unfolding instrAt
+judged c =
+    let a = c .before .before .before .before .before .before .before .before .before .before .before .before .before .before .before .before .before .args in
+    c .judge .ensures
+    ∙ ap (λ (t : State). judgedOf (c .before .before .before .before .before .decode .result) t (getD (a .stack .now) (t .sp) 0) (a .ram .now) (a .keys .now)) (c .before .before .before .to-pc .ensures ∙ ap (withPc (a .s)) (c .before .before .before .before .wrapping-add-u8 .ensures))
+    ∙ rw (c .before .before .before .before .before .decode .ensures .table, c .before .before .before .before .before .before .load2 .ensures, c .before .before .before .before .before .before .before .before .before .load .ensures)
+
+judge-requires : tie.Need-judge-requires
+judge-requires c κs =
+    let s = c .before .before .to-pc .result in
+    rw (c .before .before .before .before .decode .ensures .table)
+    (decoded-operand s (c .before .before .before .before .before .before .register-of .result) (c .before .before .before .before .before .before .before .before .load .result) (c .before .before .before .before .before .load2 .result)
+    (c .before .before .before .before .before .before .register-of .ensures ∙ rw (c .before .before .before .before .before .before .before .low-pair .ensures, c .before .before .to-pc .ensures)))
 
 returns : tie.Need-returns
 unfolding instrAt enactedOf
@@ -20,35 +38,79 @@ returns c = let a = c .before .before .before .before .before .before .before .a
 
 returns-2 : tie.Need-returns-2
 unfolding instrAt enactedOf
-returns-2 c = let a = c .before .before .before .before .before .before .before .before .before .before .before .before .before .before .before .before .before .before .before .args in let j : judgedBy (c .before .before .before .before .judge .result) ≡ judgedOf (instrAt (program (a .opcodes .now) (a .arguments .now)) (a .s .pc)) (fetched (a .s)) (getD (a .stack .now) (a .s .sp) 0) (a .ram .now) (a .keys .now) = c .before .before .before .before .judge .ensures ∙ ap (λ (t : State). judgedOf (c .before .before .before .before .before .before .before .decode .result) t (getD (a .stack .now) (t .sp) 0) (a .ram .now) (a .keys .now)) (c .before .before .before .before .before .before .before .before .before .before .to-pc .ensures ∙ ap (withPc (a .s)) (c .before .before .before .before .before .before .before .before .before .before .before .wrapping-add-u8 .ensures)) ∙ rw (c .before .before .before .before .before .before .before .decode .ensures .table, c .before .before .before .before .before .before .before .before .load2 .ensures, c .before .before .before .before .before .before .before .before .before .load .ensures) in turn-goes (a .opcodes .now) (a .arguments .now) (a .keys .now) (a .s) (a .ram .now) (a .stack .now) (a .roll .now) (a .words) (c .before .before .before .before .judge .result) (c .before .before .before .before .before .before .before .before .before .before .before .before .if1 .left) j _ _ (c .before .before .before .wide .ensures .0) (c .before .before .before .wide .ensures .1) (rw (c .enum-told .given .1)) (rw (c .enum-told .given .1)) (λ k c′. rw (c .enum-told .given .1))
+returns-2 c =
+    let d = c .before .before .before in
+    let a = d .before .before .before .before .before .before .before .before .before .before .before .before .before .before .before .before .before .before .args in
+    turn-goes (a .opcodes .now) (a .arguments .now) (a .keys .now) (a .s) (a .ram .now) (a .stack .now) (a .roll .now) (a .words) (d .before .judge .result) (d .before .before .before .before .before .before .before .before .before .before .before .if1 .left) (judged (d .before)) _ _ (d .wide .ensures .0) (d .wide .ensures .1)
+    (rw (c .enum-told .given .1))
+    (rw (c .enum-told .given .1))
+    (λ k c′. rw (c .enum-told .given .1))
 
 returns-3 : tie.Need-returns-3
 unfolding instrAt enactedOf
-returns-3 c = let a = c .before .before .before .before .before .before .before .before .before .before .before .before .before .before .before .before .before .before .before .before .before .before .args in let j : judgedBy (c .before .before .before .before .before .before .before .judge .result) ≡ judgedOf (instrAt (program (a .opcodes .now) (a .arguments .now)) (a .s .pc)) (fetched (a .s)) (getD (a .stack .now) (a .s .sp) 0) (a .ram .now) (a .keys .now) = c .before .before .before .before .before .before .before .judge .ensures ∙ ap (λ (t : State). judgedOf (c .before .before .before .before .before .before .before .before .before .before .decode .result) t (getD (a .stack .now) (t .sp) 0) (a .ram .now) (a .keys .now)) (c .before .before .before .before .before .before .before .before .before .before .before .before .before .to-pc .ensures ∙ ap (withPc (a .s)) (c .before .before .before .before .before .before .before .before .before .before .before .before .before .before .wrapping-add-u8 .ensures)) ∙ rw (c .before .before .before .before .before .before .before .before .before .before .decode .ensures .table, c .before .before .before .before .before .before .before .before .before .before .before .load2 .ensures, c .before .before .before .before .before .before .before .before .before .before .before .before .load .ensures) in turn-goes (a .opcodes .now) (a .arguments .now) (a .keys .now) (a .s) (a .ram .now) (a .stack .now) (a .roll .now) (a .words) (c .before .before .before .before .before .before .before .judge .result) (c .before .before .before .before .before .before .before .before .before .before .before .before .before .before .before .if1 .left) j _ _ (c .before .before .before .before .before .before .wide .ensures .0) (c .before .before .before .before .before .before .wide .ensures .1) (rw (c .before .before .before .enum-told2 .given .1, ← c .before .is-settled .ensures, c .if2 .taken)) (rw (c .before .before .before .enum-told2 .given .1)) (λ k c′. rw (c .before .before .before .enum-told2 .given .1))
+returns-3 c =
+    let d = c .before .before .before .before .before .before in
+    let a = d .before .before .before .before .before .before .before .before .before .before .before .before .before .before .before .before .before .before .args in
+    turn-goes (a .opcodes .now) (a .arguments .now) (a .keys .now) (a .s) (a .ram .now) (a .stack .now) (a .roll .now) (a .words) (d .before .judge .result) (d .before .before .before .before .before .before .before .before .before .before .before .if1 .left) (judged (d .before)) _ _ (d .wide .ensures .0) (d .wide .ensures .1)
+    (rw (c .before .before .before .enum-told2 .given .1, ← c .before .is-settled .ensures, c .if2 .taken))
+    (rw (c .before .before .before .enum-told2 .given .1))
+    (λ k c′. rw (c .before .before .before .enum-told2 .given .1))
 
 returns-4 : tie.Need-returns-4
 unfolding instrAt enactedOf
-returns-4 c = let a = c .before .before .before .before .before .before .before .before .before .before .before .before .before .before .before .before .before .before .before .before .before .before .args in let j : judgedBy (c .before .before .before .before .before .before .before .judge .result) ≡ judgedOf (instrAt (program (a .opcodes .now) (a .arguments .now)) (a .s .pc)) (fetched (a .s)) (getD (a .stack .now) (a .s .sp) 0) (a .ram .now) (a .keys .now) = c .before .before .before .before .before .before .before .judge .ensures ∙ ap (λ (t : State). judgedOf (c .before .before .before .before .before .before .before .before .before .before .decode .result) t (getD (a .stack .now) (t .sp) 0) (a .ram .now) (a .keys .now)) (c .before .before .before .before .before .before .before .before .before .before .before .before .before .to-pc .ensures ∙ ap (withPc (a .s)) (c .before .before .before .before .before .before .before .before .before .before .before .before .before .before .wrapping-add-u8 .ensures)) ∙ rw (c .before .before .before .before .before .before .before .before .before .before .decode .ensures .table, c .before .before .before .before .before .before .before .before .before .before .before .load2 .ensures, c .before .before .before .before .before .before .before .before .before .before .before .before .load .ensures) in turn-stops (a .opcodes .now) (a .arguments .now) (a .keys .now) (a .s) (a .ram .now) (a .stack .now) (a .roll .now) (a .words) (c .before .before .before .before .before .before .before .judge .result) (c .before .before .before .before .before .before .before .before .before .before .before .before .before .before .before .if1 .left) j Unsettled _ (c .before .before .before .before .before .before .wide .ensures .1) (rw (c .before .before .before .enum-told2 .given .1, ← c .before .is-settled .ensures, c .if2 .left))
+returns-4 c =
+    let d = c .before .before .before .before .before .before in
+    let a = d .before .before .before .before .before .before .before .before .before .before .before .before .before .before .before .before .before .before .args in
+    turn-stops (a .opcodes .now) (a .arguments .now) (a .keys .now) (a .s) (a .ram .now) (a .stack .now) (a .roll .now) (a .words) (d .before .judge .result) (d .before .before .before .before .before .before .before .before .before .before .before .if1 .left) (judged (d .before)) Unsettled _ (d .wide .ensures .1)
+    (rw (c .before .before .before .enum-told2 .given .1, ← c .before .is-settled .ensures, c .if2 .left))
 
 returns-5 : tie.Need-returns-5
 unfolding instrAt enactedOf
-returns-5 c = let a = c .before .before .before .before .before .before .before .before .before .before .before .before .before .before .before .before .before .before .before .before .before .before .before .before .args in let j : judgedBy (c .before .before .before .before .before .before .before .before .before .judge .result) ≡ judgedOf (instrAt (program (a .opcodes .now) (a .arguments .now)) (a .s .pc)) (fetched (a .s)) (getD (a .stack .now) (a .s .sp) 0) (a .ram .now) (a .keys .now) = c .before .before .before .before .before .before .before .before .before .judge .ensures ∙ ap (λ (t : State). judgedOf (c .before .before .before .before .before .before .before .before .before .before .before .before .decode .result) t (getD (a .stack .now) (t .sp) 0) (a .ram .now) (a .keys .now)) (c .before .before .before .before .before .before .before .before .before .before .before .before .before .before .before .to-pc .ensures ∙ ap (withPc (a .s)) (c .before .before .before .before .before .before .before .before .before .before .before .before .before .before .before .before .wrapping-add-u8 .ensures)) ∙ rw (c .before .before .before .before .before .before .before .before .before .before .before .before .decode .ensures .table, c .before .before .before .before .before .before .before .before .before .before .before .before .before .load2 .ensures, c .before .before .before .before .before .before .before .before .before .before .before .before .before .before .load .ensures) in turn-goes (a .opcodes .now) (a .arguments .now) (a .keys .now) (a .s) (a .ram .now) (a .stack .now) (a .roll .now) (a .words) (c .before .before .before .before .before .before .before .before .before .judge .result) (c .before .before .before .before .before .before .before .before .before .before .before .before .before .before .before .before .before .if1 .left) j _ _ (c .before .before .before .before .before .before .before .before .wide .ensures .0) (c .before .before .before .before .before .before .before .before .wide .ensures .1) (rw (c .before .before .before .before .before .act .given .1)) (rw (c .before .before .before .before .before .act .given .1)) (λ k c′. rw (c .before .before .before .before .before .act .given .1, c .before .before .store .ensures))
+returns-5 c =
+    let d = c .before .before .before .before .before .before .before .before in
+    let a = d .before .before .before .before .before .before .before .before .before .before .before .before .before .before .before .before .before .before .args in
+    turn-goes (a .opcodes .now) (a .arguments .now) (a .keys .now) (a .s) (a .ram .now) (a .stack .now) (a .roll .now) (a .words) (d .before .judge .result) (d .before .before .before .before .before .before .before .before .before .before .before .if1 .left) (judged (d .before)) _ _ (d .wide .ensures .0) (d .wide .ensures .1)
+    (rw (c .before .before .before .before .before .act .given .1))
+    (rw (c .before .before .before .before .before .act .given .1))
+    (λ k c′. rw (c .before .before .before .before .before .act .given .1, c .before .before .store .ensures))
 
 returns-6 : tie.Need-returns-6
 unfolding instrAt enactedOf
-returns-6 c = let a = c .before .before .before .before .before .before .before .before .before .before .before .before .before .before .before .before .before .before .before .before .before .before .before .before .args in let j : judgedBy (c .before .before .before .before .before .before .before .before .before .judge .result) ≡ judgedOf (instrAt (program (a .opcodes .now) (a .arguments .now)) (a .s .pc)) (fetched (a .s)) (getD (a .stack .now) (a .s .sp) 0) (a .ram .now) (a .keys .now) = c .before .before .before .before .before .before .before .before .before .judge .ensures ∙ ap (λ (t : State). judgedOf (c .before .before .before .before .before .before .before .before .before .before .before .before .decode .result) t (getD (a .stack .now) (t .sp) 0) (a .ram .now) (a .keys .now)) (c .before .before .before .before .before .before .before .before .before .before .before .before .before .before .before .to-pc .ensures ∙ ap (withPc (a .s)) (c .before .before .before .before .before .before .before .before .before .before .before .before .before .before .before .before .wrapping-add-u8 .ensures)) ∙ rw (c .before .before .before .before .before .before .before .before .before .before .before .before .decode .ensures .table, c .before .before .before .before .before .before .before .before .before .before .before .before .before .load2 .ensures, c .before .before .before .before .before .before .before .before .before .before .before .before .before .before .load .ensures) in turn-goes (a .opcodes .now) (a .arguments .now) (a .keys .now) (a .s) (a .ram .now) (a .stack .now) (a .roll .now) (a .words) (c .before .before .before .before .before .before .before .before .before .judge .result) (c .before .before .before .before .before .before .before .before .before .before .before .before .before .before .before .before .before .if1 .left) j _ _ (c .before .before .before .before .before .before .before .before .wide .ensures .0) (c .before .before .before .before .before .before .before .before .wide .ensures .1) (rw (c .before .before .before .before .before .act2 .given .1)) (rw (c .before .before .before .before .before .act2 .given .1)) (λ k c′. rw (c .before .before .before .before .before .act2 .given .1, c .before .before .store2 .ensures))
+returns-6 c =
+    let d = c .before .before .before .before .before .before .before .before in
+    let a = d .before .before .before .before .before .before .before .before .before .before .before .before .before .before .before .before .before .before .args in
+    turn-goes (a .opcodes .now) (a .arguments .now) (a .keys .now) (a .s) (a .ram .now) (a .stack .now) (a .roll .now) (a .words) (d .before .judge .result) (d .before .before .before .before .before .before .before .before .before .before .before .if1 .left) (judged (d .before)) _ _ (d .wide .ensures .0) (d .wide .ensures .1)
+    (rw (c .before .before .before .before .before .act2 .given .1))
+    (rw (c .before .before .before .before .before .act2 .given .1))
+    (λ k c′. rw (c .before .before .before .before .before .act2 .given .1, c .before .before .store2 .ensures))
 
 returns-7 : tie.Need-returns-7
 unfolding instrAt enactedOf
-returns-7 c = let a = c .before .before .before .before .before .before .before .before .before .before .before .before .before .before .before .before .before .before .before .before .before .before .before .before .before .args in let j : judgedBy (c .before .before .before .before .before .before .before .before .before .before .judge .result) ≡ judgedOf (instrAt (program (a .opcodes .now) (a .arguments .now)) (a .s .pc)) (fetched (a .s)) (getD (a .stack .now) (a .s .sp) 0) (a .ram .now) (a .keys .now) = c .before .before .before .before .before .before .before .before .before .before .judge .ensures ∙ ap (λ (t : State). judgedOf (c .before .before .before .before .before .before .before .before .before .before .before .before .before .decode .result) t (getD (a .stack .now) (t .sp) 0) (a .ram .now) (a .keys .now)) (c .before .before .before .before .before .before .before .before .before .before .before .before .before .before .before .before .to-pc .ensures ∙ ap (withPc (a .s)) (c .before .before .before .before .before .before .before .before .before .before .before .before .before .before .before .before .before .wrapping-add-u8 .ensures)) ∙ rw (c .before .before .before .before .before .before .before .before .before .before .before .before .before .decode .ensures .table, c .before .before .before .before .before .before .before .before .before .before .before .before .before .before .load2 .ensures, c .before .before .before .before .before .before .before .before .before .before .before .before .before .before .before .load .ensures) in turn-goes (a .opcodes .now) (a .arguments .now) (a .keys .now) (a .s) (a .ram .now) (a .stack .now) (a .roll .now) (a .words) (c .before .before .before .before .before .before .before .before .before .before .judge .result) (c .before .before .before .before .before .before .before .before .before .before .before .before .before .before .before .before .before .before .if1 .left) j _ _ (c .before .before .before .before .before .before .before .before .before .wide .ensures .0) (c .before .before .before .before .before .before .before .before .before .wide .ensures .1) (rw (c .before .before .before .before .before .before .act3 .given .1)) (rw (c .before .before .before .before .before .before .act3 .given .1, lt-leb _ _ (c .before .before .before .before .if3 .taken))) (λ k c′. rw (c .before .before .before .before .before .before .act3 .given .1, c .before .before .send .ensures .0, c .before .before .send .ensures .1))
+returns-7 c =
+    let d = c .before .before .before .before .before .before .before .before .before in
+    let a = d .before .before .before .before .before .before .before .before .before .before .before .before .before .before .before .before .before .before .args in
+    turn-goes (a .opcodes .now) (a .arguments .now) (a .keys .now) (a .s) (a .ram .now) (a .stack .now) (a .roll .now) (a .words) (d .before .judge .result) (d .before .before .before .before .before .before .before .before .before .before .before .if1 .left) (judged (d .before)) _ _ (d .wide .ensures .0) (d .wide .ensures .1)
+    (rw (c .before .before .before .before .before .before .act3 .given .1))
+    (rw (c .before .before .before .before .before .before .act3 .given .1, lt-leb _ _ (c .before .before .before .before .if3 .taken)))
+    (λ k c′. rw (c .before .before .before .before .before .before .act3 .given .1, c .before .before .send .ensures .0, c .before .before .send .ensures .1))
 
 returns-8 : tie.Need-returns-8
 unfolding instrAt enactedOf
-returns-8 c = let a = c .before .before .before .before .before .before .before .before .before .before .before .before .before .before .before .before .before .before .before .before .before .args in let j : judgedBy (c .before .before .before .before .before .before .judge .result) ≡ judgedOf (instrAt (program (a .opcodes .now) (a .arguments .now)) (a .s .pc)) (fetched (a .s)) (getD (a .stack .now) (a .s .sp) 0) (a .ram .now) (a .keys .now) = c .before .before .before .before .before .before .judge .ensures ∙ ap (λ (t : State). judgedOf (c .before .before .before .before .before .before .before .before .before .decode .result) t (getD (a .stack .now) (t .sp) 0) (a .ram .now) (a .keys .now)) (c .before .before .before .before .before .before .before .before .before .before .before .before .to-pc .ensures ∙ ap (withPc (a .s)) (c .before .before .before .before .before .before .before .before .before .before .before .before .before .wrapping-add-u8 .ensures)) ∙ rw (c .before .before .before .before .before .before .before .before .before .decode .ensures .table, c .before .before .before .before .before .before .before .before .before .before .load2 .ensures, c .before .before .before .before .before .before .before .before .before .before .before .load .ensures) in turn-stops (a .opcodes .now) (a .arguments .now) (a .keys .now) (a .s) (a .ram .now) (a .stack .now) (a .roll .now) (a .words) (c .before .before .before .before .before .before .judge .result) (c .before .before .before .before .before .before .before .before .before .before .before .before .before .before .if1 .left) j Full _ (c .before .before .before .before .before .wide .ensures .1) (rw (c .before .before .act3 .given .1, le-leb _ _ (c .if3 .left)))
+returns-8 c =
+    let d = c .before .before .before .before .before in
+    let a = d .before .before .before .before .before .before .before .before .before .before .before .before .before .before .before .before .before .before .args in
+    turn-stops (a .opcodes .now) (a .arguments .now) (a .keys .now) (a .s) (a .ram .now) (a .stack .now) (a .roll .now) (a .words) (d .before .judge .result) (d .before .before .before .before .before .before .before .before .before .before .before .if1 .left) (judged (d .before)) Full _ (d .wide .ensures .1)
+    (rw (c .before .before .act3 .given .1, le-leb _ _ (c .if3 .left)))
 
 returns-9 : tie.Need-returns-9
 unfolding instrAt enactedOf
-returns-9 c = let a = c .before .before .before .before .before .before .before .before .before .before .before .before .before .before .before .before .before .before .before .before .before .args in let j : judgedBy (c .before .before .before .before .before .before .judge .result) ≡ judgedOf (instrAt (program (a .opcodes .now) (a .arguments .now)) (a .s .pc)) (fetched (a .s)) (getD (a .stack .now) (a .s .sp) 0) (a .ram .now) (a .keys .now) = c .before .before .before .before .before .before .judge .ensures ∙ ap (λ (t : State). judgedOf (c .before .before .before .before .before .before .before .before .before .decode .result) t (getD (a .stack .now) (t .sp) 0) (a .ram .now) (a .keys .now)) (c .before .before .before .before .before .before .before .before .before .before .before .before .to-pc .ensures ∙ ap (withPc (a .s)) (c .before .before .before .before .before .before .before .before .before .before .before .before .before .wrapping-add-u8 .ensures)) ∙ rw (c .before .before .before .before .before .before .before .before .before .decode .ensures .table, c .before .before .before .before .before .before .before .before .before .before .load2 .ensures, c .before .before .before .before .before .before .before .before .before .before .before .load .ensures) in turn-goes (a .opcodes .now) (a .arguments .now) (a .keys .now) (a .s) (a .ram .now) (a .stack .now) (a .roll .now) (a .words) (c .before .before .before .before .before .before .judge .result) (c .before .before .before .before .before .before .before .before .before .before .before .before .before .before .if1 .left) j _ _ (c .before .before .before .before .before .wide .ensures .0) (c .before .before .before .before .before .wide .ensures .1) (rw (c .before .before .act4 .given .1)) (rw (c .before .before .act4 .given .1)) (λ k c′. rw (c .before .before .act4 .given .1, c .operate .ensures))
+returns-9 c =
+    let d = c .before .before .before .before .before in
+    let a = d .before .before .before .before .before .before .before .before .before .before .before .before .before .before .before .before .before .before .args in
+    turn-goes (a .opcodes .now) (a .arguments .now) (a .keys .now) (a .s) (a .ram .now) (a .stack .now) (a .roll .now) (a .words) (d .before .judge .result) (d .before .before .before .before .before .before .before .before .before .before .before .if1 .left) (judged (d .before)) _ _ (d .wide .ensures .0) (d .wide .ensures .1)
+    (rw (c .before .before .act4 .given .1))
+    (rw (c .before .before .act4 .given .1))
+    (λ k c′. rw (c .before .before .act4 .given .1, c .operate .ensures))
 
 pub step-spec : {M : Type 1} → statement M
 step-spec =
@@ -61,6 +123,8 @@ step-spec =
     (λ c κs. search needs)
     (λ c κs. search needs)
     (λ c κs. search needs)
+    (λ c κs. search needs)
+    judge-requires
     (λ c κs. search needs)
     (λ c. search needs)
     (λ c. search needs)
