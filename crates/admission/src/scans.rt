@@ -17,12 +17,17 @@ ghost use Rattle.admission.specs.Parts.{drawnBy, Entered, blanksOf, name
 fn sizes(opcodes: &[u8], arguments: &[u8], sheet: &[u8], list: &[u8]) -> u32
     ensures { λ r. ⌜ r ≡ sizesOf (listing (now (opcodes .entry)) (now (arguments .entry)) (now (sheet .entry)) (now (list .entry))) ⌝ }
 {
+    if !((opcodes.len() == 256) & (arguments.len() == 256)) {
+        return 1;
+    }
+    if !(sheet.len() == 512) {
+        return 2;
+    }
     let n = list.len();
-    let bad_banks = !((opcodes.len() == 256) & (arguments.len() == 256));
-    let bad_list = (n % 2 == 1) | ((n == 0) | (128 < n));
-    let bad_sheet = !(sheet.len() == 512);
-    let rest = first(bad_sheet, 2, 0, first(bad_list, 3, 0, 0));
-    first(bad_banks, 1, 0, rest)
+    if (n % 2 == 1) | ((n == 0) | (128 < n)) {
+        return 3;
+    }
+    0
 }
 
 // 4 at the lowest address that breaks it, or 0.

@@ -1,4 +1,4 @@
--- The tests of 1, 2 and 3.
+-- The tests of 1, 2 and 3, one after another.
 -- Assumes nothing.
 use borrow.Author.Needs.{needs}
 use Rattle.rules.specs.Grounds.{firstBroken}
@@ -10,7 +10,7 @@ unfolding firstBroken
 sizes-spec =
     tie.close
     (tie.spec
-    (λ c κs. search needs)
-    (λ c κs. search needs)
-    (λ c κs. search needs)
-    (λ c. rw (c .first3 .ensures, c .before .first2 .ensures, c .before .before .first .ensures)))
+    (λ c. rw (c .if1 .taken))
+    (λ c. rw (c .before .if1 .left, c .if2 .taken))
+    (λ c. rw (c .before .before .if1 .left, c .before .if2 .left, c .if3 .taken))
+    (λ c. rw (c .before .before .if1 .left, c .before .if2 .left, c .if3 .left)))
