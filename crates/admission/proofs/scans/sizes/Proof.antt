@@ -1,7 +1,10 @@
 -- The tests of 1, 2 and 3, one after another.
 -- Assumes nothing.
+use mathlib.Core.Path.{_≡_}
+use mathlib.Core.Bool.{true, false}
 use borrow.Author.Needs.{needs}
-use Rattle.rules.specs.Grounds.{firstBroken}
+use Rattle.rules.specs.Grounds.{firstBroken, badBanks, badSheet, badList}
+use Rattle.rules.specs.Sheet.{listing}
 use Rattle.admission.proofs.scans.sizes.Statement.{statement}
 use Rattle.admission.proofs.scans.sizes.Tie as tie
 
@@ -10,7 +13,28 @@ unfolding firstBroken
 sizes-spec =
     tie.close
     (tie.spec
-    (λ c. rw (c .if1 .taken))
-    (λ c. rw (c .before .if1 .left, c .if2 .taken))
-    (λ c. rw (c .before .before .if1 .left, c .before .if2 .left, c .if3 .taken))
-    (λ c. rw (c .before .before .if1 .left, c .before .if2 .left, c .if3 .left)))
+    (λ c.
+    let a = c .before .args in
+    let L = listing (a .opcodes .now) (a .arguments .now) (a .sheet .now) (a .list .now) in
+    let one : badBanks L ≡ true = c .if1 .taken in
+    rw one)
+    (λ c.
+    let a = c .before .before .args in
+    let L = listing (a .opcodes .now) (a .arguments .now) (a .sheet .now) (a .list .now) in
+    let one : badBanks L ≡ false = c .before .if1 .left in
+    let two : badSheet L ≡ true = c .if2 .taken in
+    rw (one, two))
+    (λ c.
+    let a = c .before .before .before .args in
+    let L = listing (a .opcodes .now) (a .arguments .now) (a .sheet .now) (a .list .now) in
+    let one : badBanks L ≡ false = c .before .before .if1 .left in
+    let two : badSheet L ≡ false = c .before .if2 .left in
+    let three : badList L ≡ true = c .if3 .taken in
+    rw (one, two, three))
+    (λ c.
+    let a = c .before .before .before .args in
+    let L = listing (a .opcodes .now) (a .arguments .now) (a .sheet .now) (a .list .now) in
+    let one : badBanks L ≡ false = c .before .before .if1 .left in
+    let two : badSheet L ≡ false = c .before .if2 .left in
+    let three : badList L ≡ false = c .if3 .left in
+    rw (one, two, three)))
