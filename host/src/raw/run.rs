@@ -85,17 +85,15 @@ pub fn call(lent: Lent<'_>, budget: u32, start: StateNumbers) -> RunNumbers {
 impl RunNumbers {
     /// The report for 0, else the refusal of that number; `start` is the state lent.
     pub fn outcome(self, start: State) -> Result<Report, RunRefusal> {
-        let number = self.number;
-        let report = Report::from(self);
-        let refusal = match number {
-            0 => return Ok(report),
+        let refusal = match self.number {
+            0 => return Ok(self.into()),
             17 => RunRefusal::Bank,
             18 => RunRefusal::Position,
             19 => RunRefusal::Budget,
-            _ => unknown("refusal of a run", number),
+            _ => unknown("refusal of a run", self.number),
         };
         let nothing = Report { stop: stop(0), steps: 0, cycles: 0, words: 0, state: start };
-        assert_eq!(report, nothing, "a refusal comes with zeros and the state lent");
+        assert_eq!(Report::from(self), nothing, "a refusal comes with zeros and the state lent");
         Err(refusal)
     }
 }
