@@ -145,6 +145,8 @@ pub fn admit(opcodes: &[u8], arguments: &[u8], sheet: &[u8], list: &[u8]) -> Res
 /// The roll is written from its beginning, and what lies past the words written is kept. A
 /// refusal leaves everything lent as it was: first a bank that isn't of 256 bytes, then a key
 /// position past the end of the keys, then a budget over [`MOST_STEPS`].
+// Inlined, so that what is lent goes to the library without being stored and loaded again.
+#[inline]
 pub fn run(lent: Lent<'_>, budget: u32, start: State) -> Result<Report, RunRefusal> {
     raw::run::call(lent, budget, start.into()).outcome(start)
 }

@@ -81,6 +81,7 @@ impl From<RawFacts> for Facts {
 }
 
 /// The value of V with this number.
+#[inline]
 fn overflow(number: u8) -> Overflow {
     match number {
         0 => Overflow::Clear,

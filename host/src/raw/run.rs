@@ -58,6 +58,7 @@ extern "C" {
 }
 
 /// The library's answer on a run; V may be lent as any number.
+#[inline]
 pub fn call(lent: Lent<'_>, budget: u32, start: StateNumbers) -> RunNumbers {
     let Lent { opcodes, arguments, keys, ram, stack, roll } = lent;
     // SAFETY: each pointer comes with the length of the slice behind it, and the slices written
@@ -84,9 +85,18 @@ pub fn call(lent: Lent<'_>, budget: u32, start: StateNumbers) -> RunNumbers {
 
 impl RunNumbers {
     /// The report for 0, else the refusal of that number; `start` is the state lent.
+    #[inline]
     pub fn outcome(self, start: State) -> Result<Report, RunRefusal> {
+        match self.number {
+            0 => Ok(self.into()),
+            _ => Err(self.refusal(start)),
+        }
+    }
+
+    /// The refusal of the number, which comes with zeros and the state lent.
+    #[cold]
+    fn refusal(self, start: State) -> RunRefusal {
         let refusal = match self.number {
-            0 => return Ok(self.into()),
             17 => RunRefusal::Bank,
             18 => RunRefusal::Position,
             19 => RunRefusal::Budget,
@@ -94,7 +104,7 @@ impl RunNumbers {
         };
         let nothing = Report { stop: stop(0), steps: 0, cycles: 0, words: 0, state: start };
         assert_eq!(Report::from(self), nothing, "a refusal comes with zeros and the state lent");
-        Err(refusal)
+        refusal
     }
 }
 
@@ -113,6 +123,7 @@ impl TimeNumbers {
 }
 
 impl From<RunNumbers> for Report {
+    #[inline]
     fn from(raw: RunNumbers) -> Report {
         let RunNumbers { steps, cycles, words, .. } = raw;
         Report { stop: stop(raw.stop), steps, cycles, words, state: raw.state.into() }
@@ -120,6 +131,7 @@ impl From<RunNumbers> for Report {
 }
 
 impl From<StateNumbers> for State {
+    #[inline]
     fn from(raw: StateNumbers) -> State {
         let StateNumbers { regs, pc, sp, out, z, c, s, v, halted, position } = raw;
         State { regs, pc, sp, out, flags: Flags { z, c, v: overflow(v), s }, halted, position }
@@ -127,6 +139,7 @@ impl From<StateNumbers> for State {
 }
 
 impl From<State> for StateNumbers {
+    #[inline]
     fn from(state: State) -> StateNumbers {
         let State { regs, pc, sp, out, flags: Flags { z, c, v, s }, halted, position } = state;
         StateNumbers { regs, pc, sp, out, z, c, s, v: number(v), halted, position }
@@ -134,6 +147,7 @@ impl From<State> for StateNumbers {
 }
 
 /// The stop with this number.
+#[inline]
 fn stop(number: u8) -> Stop {
     match number {
         0 => Stop::Halted,
@@ -145,6 +159,7 @@ fn stop(number: u8) -> Stop {
 }
 
 /// The number of a value of V.
+#[inline]
 fn number(v: Overflow) -> u8 {
     match v {
         Overflow::Clear => 0,
