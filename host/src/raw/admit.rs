@@ -3,8 +3,10 @@
 use super::unknown;
 use crate::Ground;
 
-/// The first number past the routines that a list can have.
-const ROUTINES: u8 = 64;
+/// How many places each ground can have, by its number: a routine for 7, an address for others, or
+/// none, which is told as 0.
+const PLACES: [u16; 17] =
+    [0, 1, 1, 1, 256, 256, 1, 64, 256, 256, 256, 256, 256, 256, 256, 256, 256];
 
 extern "C" {
     pub fn cesca_admit(
@@ -25,13 +27,8 @@ pub fn outcome(answer: u32) -> Result<(), Ground> {
         return Ok(());
     }
     let [number, place, 0, 0] = answer.to_le_bytes() else { unknown("ground", answer) };
-    let known = match number {
-        1 | 2 | 3 | 6 => place == 0,
-        7 => place < ROUTINES,
-        4 | 5 | 8..=16 => true,
-        _ => false,
-    };
-    if !known {
+    let places = PLACES.get(usize::from(number)).copied().unwrap_or(0);
+    if u16::from(place) >= places {
         unknown("ground", answer);
     }
     Err(Ground { number, place })
