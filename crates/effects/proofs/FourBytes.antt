@@ -8,7 +8,6 @@ use native.Mathlib.Omega.{arith}
 use lib.Bits.{bitAnd, and-high}
 use lib.ListN.{length, getD, set, length-set, List·getD-eq-default}
 use lib.Dec.{lit≤}
-use lib.Seq.{set-out}
 use mir.Syntax.{w8}
 use mir.Val.{Val, Fits}
 use denote.Laws.{Is}

@@ -49,8 +49,8 @@ pub fn read(regs: [u8; 4], r: u8) -> u8
     regs[r as usize]
 }
 
-// The registers with one place changed; a number over 3 changes none. One of 4 to 7 goes the same
-// way as a register's: a number of three bits is then not tested.
+// The registers with one place changed; a number over 3 changes none. 4 to 7 go the same way as 0
+// to 3, to a place above the four bytes: a number of three bits then needs no test.
 pub fn with_register(regs: [u8; 4], r: u8, v: u8) -> [u8; 4]
     ensures { λ n. ⌜ n ≡ set regs r v ⌝ }
 {
