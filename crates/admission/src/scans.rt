@@ -119,6 +119,6 @@ pub fn admit(opcodes: &[u8], arguments: &[u8], sheet: &[u8], list: &[u8]) -> u32
         return entries;
     }
     // Slices made here, since this scan is a call: those handed in then need no place in memory, and
-    // a listing that is refused by a length is answered without one store.
+    // a listing refused by 1 or 2 is answered without one store.
     scan_addresses(&opcodes[..], &arguments[..], &sheet[..], &list[..])
 }
