@@ -40,15 +40,16 @@ impl Refusal {
     }
 }
 
-/// The overflow flag V.
+/// The overflow flag V, with the library's numbers.
+#[repr(u8)]
 #[derive(Clone, Copy, Debug, PartialEq, Eq)]
 pub enum Overflow {
     /// V is 0.
-    Clear,
+    Clear = 0,
     /// V is 1.
-    Set,
+    Set = 1,
     /// V has no value that may be tested.
-    Unsettled,
+    Unsettled = 2,
 }
 
 /// What the ALU yields: the result and the four flags.

@@ -57,6 +57,7 @@ pub use answers::{AluAnswer, Class, Effect, Facts, Fields, Overflow, Refusal};
 pub use ground::Ground;
 pub use machine::{Flags, Lent, Report, RunRefusal, State, Stop, TimeRefusal};
 pub use machine::{FASTEST_CLOCK, MOST_CYCLES, MOST_STEPS};
+use std::mem::MaybeUninit;
 
 /// The form and fields of a two-byte word, opcode first; free bits are ignored.
 ///
@@ -123,6 +124,8 @@ pub fn facts(fields: Fields) -> Facts {
 /// Success if the listing is admitted, else the first ground that refuses it.
 ///
 /// The slices may have any length; nothing is written to them.
+// Inlined, so that the slices go to the library without being stored and loaded again.
+#[inline]
 pub fn admit(opcodes: &[u8], arguments: &[u8], sheet: &[u8], list: &[u8]) -> Result<(), Ground> {
     // SAFETY: each pointer comes with the length of the slice behind it, which is only read.
     let answer = unsafe {
@@ -148,7 +151,7 @@ pub fn admit(opcodes: &[u8], arguments: &[u8], sheet: &[u8], list: &[u8]) -> Res
 // Inlined, so that what is lent goes to the library without being stored and loaded again.
 #[inline]
 pub fn run(lent: Lent<'_>, budget: u32, start: State) -> Result<Report, RunRefusal> {
-    raw::run::call(lent, budget, start.into()).outcome(start)
+    raw::run::call(lent, budget, MaybeUninit::new(start)).outcome(start)
 }
 
 /// The time of so many cycles at a clock in Hz, in tenths of a second, or why none is told.

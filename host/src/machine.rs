@@ -28,20 +28,22 @@ pub struct Lent<'a> {
     pub roll: &'a mut [u16],
 }
 
-/// The four flags.
+/// The four flags, laid out as the library has them.
+#[repr(C)]
 #[derive(Clone, Copy, Debug, PartialEq, Eq)]
 pub struct Flags {
     /// The last result was 0.
     pub z: bool,
     /// Carry or borrow.
     pub c: bool,
-    /// Signed overflow.
-    pub v: Overflow,
     /// Bit 7 of the last result.
     pub s: bool,
+    /// Signed overflow.
+    pub v: Overflow,
 }
 
-/// The machine between two steps, its banks apart.
+/// The machine between two steps, its banks apart, laid out as the library has it.
+#[repr(C)]
 #[derive(Clone, Copy, Debug, PartialEq, Eq)]
 pub struct State {
     /// The registers R0 to R3.
@@ -68,7 +70,7 @@ impl State {
             pc: 0,
             sp: 255,
             out: 0,
-            flags: Flags { z: false, c: false, v: Overflow::Unsettled, s: false },
+            flags: Flags { z: false, c: false, s: false, v: Overflow::Unsettled },
             halted: false,
             position: 0,
         }

@@ -53,7 +53,7 @@ past-four : (l : List ℕ) (r : ℕ) → FourBytes l → 4 ≤ r → getD l r 0 
 past-four l r h p = List·getD-eq-default l 0 (omega (arith, h .long))
 
 -- the byte at a place
-digit : (l : List ℕ) (r : ℕ) → FourBytes l → r ≤ 7 → number l / 2 ^ (8 * r) % 256 ≡ getD l r 0
+pub digit : (l : List ℕ) (r : ℕ) → FourBytes l → r ≤ 7 → number l / 2 ^ (8 * r) % 256 ≡ getD l r 0
 digit l r h p =
     let a = h .small 0 in
     let b = h .small 1 in

@@ -1,3 +1,4 @@
 -- Laws that belong to no one function.
+pub mod Branches
 pub mod FourBytes
 pub mod OperandsRead

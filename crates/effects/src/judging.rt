@@ -1,11 +1,14 @@
 // What each instruction does, as one function of forty arms: the next state, an act, and cycles.
 use super::Act;
 use super::Effect;
+use super::jumping::course_of;
+use super::jumping::followed;
 use super::states;
+use super::states::operand_of;
 use super::states::register_of;
 use alu::Computed;
-use alu::Overflow;
 use isa::Instr;
+use isa::decoding::low_pair;
 use model::State;
 use slices::load;
 ghost use mathlib.Core.Path.{_≡_};
@@ -13,14 +16,15 @@ ghost use mathlib.Core.Bool.{cond};
 ghost use Prim.Native.Nat.{_+_, _≤_};
 ghost use lib.Dec.{ltb};
 ghost use lib.ListN.{length, getD};
-ghost use Rattle.model.specs.Plan.{valueOf};
 ghost use Rattle.model.specs.State.{plusOne, minusOne, withRegister, withPc, withSp, withOut, withFlags, withHalted, withPosition};
+ghost use Rattle.model.specs.Step.{fetched};
+ghost use Rattle.isa.specs.Decode.{decodeOf};
 ghost use Rattle.isa.specs.Table.{rowOf, opcodeIn};
 ghost use Rattle.effects.specs.Effects.{effect, judgedBy, judgedOf};
 ghost use Rattle.effects.specs.Operands.{IsOperand};
 
 // A next state, and nothing else.
-fn quiet(s: State, n: u8) -> Effect
+pub fn quiet(s: State, n: u8) -> Effect
     ensures { λ r. ⌜ r ≡ effect s Act.Quiet n ⌝ }
 {
     Effect {
@@ -157,39 +161,6 @@ fn returned(s: State, v: u8) -> Effect
     quiet(states::to_pc(states::to_sp(s, a), v), 4)
 }
 
-// PC, where a condition holds.
-fn jumped(b: bool, s: State, a: u8) -> Effect
-    ensures { λ r. ⌜ r ≡ effect (cond b (withPc s a) s) Act.Quiet 3 ⌝ }
-{
-    if b {
-        quiet(states::to_pc(s, a), 3)
-    } else {
-        quiet(s, 3)
-    }
-}
-
-// A state, and that V was tested.
-fn tested(s: State) -> Effect
-    ensures { λ r. ⌜ r ≡ effect s Act.Tests 3 ⌝ }
-{
-    Effect {
-        state: s,
-        act: Act::Tests,
-        cycles: 3,
-    }
-}
-
-// PC, where a condition on V holds.
-fn branched(b: bool, s: State, a: u8) -> Effect
-    ensures { λ r. ⌜ r ≡ effect (cond b (withPc s a) s) Act.Tests 3 ⌝ }
-{
-    if b {
-        tested(states::to_pc(s, a))
-    } else {
-        tested(s)
-    }
-}
-
 // A word to the roll.
 fn sent(s: State, w: u16, n: u8) -> Effect
     ensures { λ r. ⌜ r ≡ effect s (Act.Roll w) n ⌝ }
@@ -215,27 +186,16 @@ fn word(v: u8) -> u16
     v as u16
 }
 
-// V as a bool, false where it is unsettled.
-fn value(v: Overflow) -> bool
-    ensures { λ r. ⌜ r ≡ valueOf v ⌝ }
-{
-    match v {
-        Overflow::Settled(set) => set,
-        Overflow::Unsettled => false,
-    }
-}
-
-// The effect of an instruction at the state after its fetch. Ra's byte x comes from the caller, who
+// The effect of an instruction at the state before its fetch. Ra's byte x comes from the caller, who
 // reads it before the form is known: it has the same two bits in every opcode that has an Ra. Read in
 // the arms, the registers did not stay in a CPU register from step to step.
-pub fn judge(instr: Instr, x: u8, s: State, keys: &[u8], ram: &[u8], stack: &[u8]) -> Effect
-    requires { ⌜ IsOperand s x (opcodeIn (rowOf instr)) ⌝ }
-    ensures { λ r. ⌜ judgedBy r ≡ judgedOf instr s (getD (now (stack .entry)) (s .sp) 0) (now (ram .entry)) (now (keys .entry)) ⌝ }
+fn judge(instr: Instr, x: u8, before: State, keys: &[u8], ram: &[u8], stack: &[u8]) -> Effect
+    requires { ⌜ IsOperand before x (opcodeIn (rowOf instr)) ⌝ }
+    ensures { λ r. ⌜ judgedBy r ≡ judgedOf instr (fetched before) (getD (now (stack .entry)) (before .sp) 0) (now (ram .entry)) (now (keys .entry)) ⌝ }
 {
-    let fl = s.flags;
-    let v = fl.v;
+    let s = states::to_pc(before, std::num::wrapping_add_u8(before.pc, 1));
     match instr {
-        Instr::Alu(d, a, f, b) => computing(s, d, f, x, register_of(s, b), 4),
+        Instr::Alu(d, a, f, b) => computing(s, d, f, x, operand_of(s, b), 4),
         Instr::AddImm(d, a, i) => computed(s, d, alu::sum(x, i, false), 4),
         Instr::AluNone(a, f, b) => comparing(s, f, x, register_of(s, b)),
         Instr::CmpImm(a, i) => flagged(s, alu::difference(x, i, false), 3),
@@ -251,22 +211,10 @@ pub fn judge(instr: Instr, x: u8, s: State, keys: &[u8], ram: &[u8], stack: &[u8
         Instr::LoadReg(d, a) => moved(s, d, load(ram, x), 4),
         Instr::Pop(d) => popped(s, d, load(stack, s.sp)),
         Instr::Swap(d, a) => swapped(s, d, load(stack, s.sp), x),
-        Instr::Jmp(i) => jumped(true, s, i),
-        Instr::JmpReg(a) => jumped(true, s, x),
+        Instr::Jmp(i) => quiet(states::to_pc(s, i), 3),
+        Instr::JmpReg(a) => quiet(states::to_pc(s, x), 3),
         Instr::Call(i) => called(s, i),
         Instr::Ret => returned(s, load(stack, s.sp)),
-        Instr::Jz(i) => jumped(fl.z, s, i),
-        Instr::Jnz(i) => jumped(!fl.z, s, i),
-        Instr::Jc(i) => jumped(fl.c, s, i),
-        Instr::Jnc(i) => jumped(!fl.c, s, i),
-        Instr::Jv(i) => branched(value(v), s, i),
-        Instr::Jnv(i) => branched(!value(v), s, i),
-        Instr::Jlz(i) => jumped(fl.s, s, i),
-        Instr::Jp(i) => jumped(!fl.s, s, i),
-        Instr::Jgz(i) => jumped(!fl.s & !fl.z, s, i),
-        Instr::Jleu(i) => jumped(fl.z | fl.c, s, i),
-        Instr::Jlt(i) => branched(value(v) ^ fl.s, s, i),
-        Instr::Jle(i) => branched((value(v) ^ fl.s) | fl.z, s, i),
         Instr::LcdCmd(i) => sent(s, 256 + word(i), 3),
         Instr::LcdImm(i) => sent(s, word(i), 3),
         Instr::LcdReg(a) => sent(s, word(x), 3),
@@ -275,5 +223,15 @@ pub fn judge(instr: Instr, x: u8, s: State, keys: &[u8], ram: &[u8], stack: &[u8
         Instr::OutMem(i) => shown(s, load(ram, i), 4),
         Instr::Hlt => quiet(states::to_halted(s, true), 2),
         Instr::Nop => quiet(s, 8),
+        _ => followed(s, course_of(instr, s)),
     }
+}
+
+// The effect of the instruction that two bytes make, at the state before its fetch.
+pub fn execute(opcode: u8, argument: u8, s: State, keys: &[u8], ram: &[u8], stack: &[u8]) -> Effect
+    ensures { λ r. ⌜ judgedBy r ≡ judgedOf (decodeOf opcode argument) (fetched s) (getD (now (stack .entry)) (s .sp) 0) (now (ram .entry)) (now (keys .entry)) ⌝ }
+{
+    let x = operand_of(s, low_pair(opcode));
+    let instr = isa::decode(opcode, argument);
+    judge(instr, x, s, keys, ram, stack)
 }

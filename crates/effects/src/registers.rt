@@ -49,6 +49,18 @@ pub fn read(regs: [u8; 4], r: u8) -> u8
     regs[r as usize]
 }
 
+// The same, cut out of the number that the four make: sooner done where a register was just written,
+// since it doesn't wait for memory. The run needs both: no array that is read by index, and the four
+// bytes would be held apart.
+pub fn cut(regs: [u8; 4], r: u8) -> u8
+    ensures { λ n. ⌜ n ≡ getD regs r 0 ⌝ }
+{
+    if 3 < r {
+        return 0;
+    }
+    (((packed(regs) as u32) >> (8 * (r as u32))) % 256) as u8
+}
+
 // The registers with one place changed; a number over 3 changes none. 4 to 7 go the same way as 0
 // to 3, to a place above the four bytes: a number of three bits then needs no test.
 pub fn with_register(regs: [u8; 4], r: u8, v: u8) -> [u8; 4]

@@ -22,6 +22,7 @@ extern "C" {
 }
 
 /// Success for 0, else the ground of that answer.
+#[inline]
 pub fn outcome(answer: u32) -> Result<(), Ground> {
     if answer == 0 {
         return Ok(());

@@ -1,23 +1,8 @@
 //! The exports for runs and running times, and their answers read into this crate's words.
 
-use super::{overflow, unknown};
-use crate::{Flags, Lent, Overflow, Report, RunRefusal, State, Stop, TimeRefusal};
-
-/// A state, V as a number.
-#[repr(C)]
-#[derive(Clone, Copy)]
-pub struct StateNumbers {
-    regs: [u8; 4],
-    pc: u8,
-    sp: u8,
-    out: u8,
-    z: bool,
-    c: bool,
-    s: bool,
-    v: u8,
-    halted: bool,
-    position: usize,
-}
+use super::unknown;
+use crate::{Lent, Report, RunRefusal, State, Stop, TimeRefusal};
+use std::mem::MaybeUninit;
 
 /// A run's answer: 0 and the report, or a ground's number, zeros and the state lent.
 #[repr(C)]
@@ -27,7 +12,7 @@ pub struct RunNumbers {
     steps: u32,
     cycles: u32,
     words: usize,
-    state: StateNumbers,
+    state: State,
 }
 
 /// A running time's answer: 0 and the tenths of a second, or a ground's number and 0.
@@ -52,17 +37,18 @@ extern "C" {
         roll: *mut u16,
         roll_len: usize,
         budget: u32,
-        start: StateNumbers,
+        start: MaybeUninit<State>,
     ) -> RunNumbers;
     pub fn cesca_running_time(cycles: u32, clock: u32) -> TimeNumbers;
 }
 
-/// The library's answer on a run; V may be lent as any number.
+/// The library's answer on a run. The state is initialised but for its V, which may be any number.
 #[inline]
-pub fn call(lent: Lent<'_>, budget: u32, start: StateNumbers) -> RunNumbers {
+pub fn call(lent: Lent<'_>, budget: u32, start: MaybeUninit<State>) -> RunNumbers {
     let Lent { opcodes, arguments, keys, ram, stack, roll } = lent;
     // SAFETY: each pointer comes with the length of the slice behind it, and the slices written
-    // to are borrowed for writing during the call, so they overlap nothing.
+    // to are borrowed for writing during the call, so they overlap nothing. By the library's
+    // contract the flags that come back are 0 or 1 and V's number is one of three.
     unsafe {
         cesca_run(
             opcodes.as_ptr(),
@@ -125,24 +111,8 @@ impl TimeNumbers {
 impl From<RunNumbers> for Report {
     #[inline]
     fn from(raw: RunNumbers) -> Report {
-        let RunNumbers { steps, cycles, words, .. } = raw;
-        Report { stop: stop(raw.stop), steps, cycles, words, state: raw.state.into() }
-    }
-}
-
-impl From<StateNumbers> for State {
-    #[inline]
-    fn from(raw: StateNumbers) -> State {
-        let StateNumbers { regs, pc, sp, out, z, c, s, v, halted, position } = raw;
-        State { regs, pc, sp, out, flags: Flags { z, c, v: overflow(v), s }, halted, position }
-    }
-}
-
-impl From<State> for StateNumbers {
-    #[inline]
-    fn from(state: State) -> StateNumbers {
-        let State { regs, pc, sp, out, flags: Flags { z, c, v, s }, halted, position } = state;
-        StateNumbers { regs, pc, sp, out, z, c, s, v: number(v), halted, position }
+        let RunNumbers { steps, cycles, words, state, .. } = raw;
+        Report { stop: stop(raw.stop), steps, cycles, words, state }
     }
 }
 
@@ -155,16 +125,6 @@ fn stop(number: u8) -> Stop {
         2 => Stop::Unsettled,
         3 => Stop::Full,
         _ => unknown("stop", number),
-    }
-}
-
-/// The number of a value of V.
-#[inline]
-fn number(v: Overflow) -> u8 {
-    match v {
-        Overflow::Clear => 0,
-        Overflow::Set => 1,
-        Overflow::Unsettled => 2,
     }
 }
 

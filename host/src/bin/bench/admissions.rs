@@ -9,9 +9,6 @@ use std::hint::black_box;
 /// The admissions that are timed together.
 pub const BATCH: u32 = 2_000;
 
-/// An admission: success, or the ground of the refusal.
-type Admit = fn(&[u8], &[u8], &[u8], &[u8]) -> Result<(), Ground>;
-
 /// Prints the table of admissions.
 pub fn table() {
     println!(
@@ -20,7 +17,7 @@ pub fn table() {
     println!("{:18} {:>10} {:>10} {:>10}", "listing", "library", "reference", "lib/ref");
     for (name, listing) in listings() {
         let [library, reference, ratio] = medians(|| {
-            let turns = [admit as Admit, reference::admit].map(|admit| seconds(admit, &listing));
+            let turns = [seconds(admit, &listing), seconds(reference::admit, &listing)];
             [turns[0], turns[1], turns[0] / turns[1]]
         });
         let [library, reference] = [library, reference].map(|time| f64::from(BATCH) / time / 1e3);
@@ -29,7 +26,10 @@ pub fn table() {
 }
 
 /// The seconds of a batch.
-pub fn seconds(admit: Admit, listing: &Listing) -> f64 {
+pub fn seconds<A>(admit: A, listing: &Listing) -> f64
+where
+    A: Fn(&[u8], &[u8], &[u8], &[u8]) -> Result<(), Ground>,
+{
     let batch = || {
         for _ in 0..BATCH {
             let Listing { opcodes, arguments, sheet, list } = black_box(listing);

@@ -2,7 +2,7 @@
 
 use crate::admissions::{seconds, BATCH};
 use crate::listings::{calls, CALLS};
-use crate::machines::Bench;
+use crate::machines::library;
 use crate::programs::ALU;
 use crate::timing::{medians, REPETITIONS};
 use cesca_host::reference::{Listing, BANK};
@@ -18,7 +18,7 @@ const ROUTINES: [u8; 4] = [2, 4, 16, 64];
 pub fn steps_table() {
     println!("library on alu, {MOST_STEPS} steps a repetition, median of {REPETITIONS}");
     let program = Listing::read(ALU);
-    let mut bench = Bench::library(&program);
+    let mut bench = library(&program);
     let times = medians(|| BUDGETS.map(|budget| bench.timed(budget, MOST_STEPS / budget).1));
     rows(["steps a run", "ns a step"], BUDGETS, times, MOST_STEPS);
 }

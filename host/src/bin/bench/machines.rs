@@ -9,14 +9,13 @@ use std::hint::black_box;
 const ROLL: usize = 100_000;
 
 /// A machine: what a run reports, or why it is refused.
-type Machine = fn(Lent<'_>, u32, State) -> Result<Report, RunRefusal>;
+pub trait Machine: Fn(Lent<'_>, u32, State) -> Result<Report, RunRefusal> {}
 
-/// The machines in the order of the tables' columns.
-const MACHINES: [Machine; 3] = [run, plain::run, predecoded::run];
+impl<M: Fn(Lent<'_>, u32, State) -> Result<Report, RunRefusal>> Machine for M {}
 
 /// A machine with a program and the buffers of its runs, never cleared between them.
-pub struct Bench<'a> {
-    machine: Machine,
+pub struct Bench<'a, M> {
+    machine: M,
     program: &'a Listing,
     keys: Vec<u8>,
     ram: [u8; BANK],
@@ -35,9 +34,15 @@ pub struct Turns {
 
 /// The times of so many runs of a program by each machine in turn.
 pub fn in_turn(program: &Listing, budget: u32, runs: u32) -> Turns {
-    let mut benches = MACHINES.map(|machine| Bench::new(machine, program));
+    let mut library = library(program);
+    let mut plain = Bench::new(plain::run, program);
+    let mut predecoded = Bench::new(predecoded::run, program);
     let [library, plain, predecoded, over_plain, over_predecoded] = medians(|| {
-        let turns = benches.each_mut().map(|bench| bench.timed(budget, runs));
+        let turns = [
+            library.timed(budget, runs),
+            plain.timed(budget, runs),
+            predecoded.timed(budget, runs),
+        ];
         let [library, plain, predecoded] = turns.map(|(report, _)| report);
         assert_eq!(library, plain, "the plain machine reports the same");
         assert_eq!(library, predecoded, "the predecoded machine reports the same");
@@ -47,14 +52,14 @@ pub fn in_turn(program: &Listing, budget: u32, runs: u32) -> Turns {
     Turns { seconds: [library, plain, predecoded], ratios: [over_plain, over_predecoded] }
 }
 
-impl<'a> Bench<'a> {
-    /// The library with a program.
-    pub fn library(program: &'a Listing) -> Bench<'a> {
-        Bench::new(run, program)
-    }
+/// The library with a program.
+pub fn library(program: &Listing) -> Bench<'_, impl Machine> {
+    Bench::new(run, program)
+}
 
+impl<'a, M: Machine> Bench<'a, M> {
     /// A machine with a program, two hundred keys and nothing in its other buffers.
-    fn new(machine: Machine, program: &'a Listing) -> Bench<'a> {
+    fn new(machine: M, program: &'a Listing) -> Bench<'a, M> {
         let (ram, stack, roll) = ([0; BANK], [0; BANK], vec![0; ROLL]);
         Bench { machine, program, keys: (1..=200).collect(), ram, stack, roll }
     }

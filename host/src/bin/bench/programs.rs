@@ -28,14 +28,14 @@ pub fn stored() -> Vec<(String, Listing)> {
 #[cfg(test)]
 mod tests {
     use super::*;
-    use crate::machines::Bench;
+    use crate::machines::library;
     use cesca_host::reference::{run_watched, Form, BANK};
     use cesca_host::{Class, Lent, State, Stop, MOST_STEPS};
     use std::collections::HashSet;
 
     #[test]
     fn the_endless_ones_spend_their_budget_and_the_stored_ones_halt() {
-        let stop = |program: &Listing| Bench::library(program).run(MOST_STEPS).stop;
+        let stop = |program: &Listing| library(program).run(MOST_STEPS).stop;
         assert!(endless().iter().all(|(_, program)| stop(program) == Stop::Spent));
         assert!(stored().iter().all(|(_, program)| stop(program) == Stop::Halted));
         assert!(stored().len() >= 7);

@@ -1,7 +1,7 @@
 //! Steps a second of each machine, program by program.
 
 use crate::columns;
-use crate::machines::{in_turn, Bench, Turns};
+use crate::machines::{in_turn, library, Turns};
 use crate::programs::{endless, stored};
 use crate::timing::REPETITIONS;
 use cesca_host::reference::Listing;
@@ -25,7 +25,7 @@ fn rows(programs: Vec<(String, Listing)>) {
 
 /// Prints the row of a program, and yields its ratios.
 fn row(name: &str, program: &Listing) -> [f64; 2] {
-    let steps = Bench::library(program).run(MOST_STEPS).steps;
+    let steps = library(program).run(MOST_STEPS).steps;
     let runs = MOST_STEPS / steps;
     let Turns { seconds, ratios } = in_turn(program, MOST_STEPS, runs);
     let millions = f64::from(steps * runs) / 1e6;

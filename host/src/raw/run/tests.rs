@@ -1,9 +1,10 @@
 //! States lent with a number of V that this crate's words can't name.
 
 use super::*;
+use crate::Overflow;
 
 /// The library's answer on a bank of this word, with a roll of no words and no keys.
-fn run(word: [u8; 2], budget: u32, start: StateNumbers) -> RunNumbers {
+fn run(word: [u8; 2], budget: u32, start: MaybeUninit<State>) -> RunNumbers {
     let [opcodes, arguments] = word.map(|byte| [byte; 256]);
     let (mut ram, mut stack) = ([0u8; 256], [0u8; 256]);
     let lent = Lent {
@@ -18,8 +19,11 @@ fn run(word: [u8; 2], budget: u32, start: StateNumbers) -> RunNumbers {
 }
 
 /// The start state with this number for V.
-fn with_v(v: u8) -> StateNumbers {
-    StateNumbers { v, ..State::start().into() }
+fn with_v(v: u8) -> MaybeUninit<State> {
+    let mut start = MaybeUninit::new(State::start());
+    // SAFETY: the pointer is to the one byte of V, within the state.
+    unsafe { (&raw mut (*start.as_mut_ptr()).flags.v).cast::<u8>().write(v) };
+    start
 }
 
 #[test]
@@ -27,10 +31,10 @@ fn every_other_number_lent_is_unsettled() {
     for v in 2..=255 {
         let jumped = run([0xC0, 0x00], 1, with_v(v)); // jv 0
         assert_eq!((jumped.number, jumped.stop, jumped.steps), (0, 2, 0), "V {v}");
-        assert_eq!(jumped.state.v, 2, "V {v}");
+        assert_eq!(jumped.state.flags.v, Overflow::Unsettled, "V {v}");
         let passed = run([0xFC, 0x00], 1, with_v(v)); // nop
         assert_eq!((passed.number, passed.stop, passed.steps), (0, 1, 1), "V {v}");
-        assert_eq!(passed.state.v, 2, "V {v}");
+        assert_eq!(passed.state.flags.v, Overflow::Unsettled, "V {v}");
     }
 }
 
@@ -38,6 +42,6 @@ fn every_other_number_lent_is_unsettled() {
 fn a_refusal_hands_back_the_number_of_what_was_lent() {
     for v in 0..=255 {
         let refused = run([0xFC, 0x00], 1_000_001, with_v(v));
-        assert_eq!((refused.number, refused.state.v), (19, v.min(2)), "V {v}");
+        assert_eq!((refused.number, refused.state.flags.v as u8), (19, v.min(2)), "V {v}");
     }
 }
