@@ -151,7 +151,8 @@ pub fn admit(opcodes: &[u8], arguments: &[u8], sheet: &[u8], list: &[u8]) -> Res
 // Inlined, so that what is lent goes to the library without being stored and loaded again.
 #[inline]
 pub fn run(lent: Lent<'_>, budget: u32, start: State) -> Result<Report, RunRefusal> {
-    raw::run::call(lent, budget, MaybeUninit::new(start)).outcome(start)
+    // SAFETY: the state is a whole one.
+    unsafe { raw::run::call(lent, budget, MaybeUninit::new(start)) }.outcome(start)
 }
 
 /// The time of so many cycles at a clock in Hz, in tenths of a second, or why none is told.

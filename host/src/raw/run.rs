@@ -42,13 +42,17 @@ extern "C" {
     pub fn cesca_running_time(cycles: u32, clock: u32) -> TimeNumbers;
 }
 
-/// The library's answer on a run. The state is initialised but for its V, which may be any number.
+/// The library's answer on a run.
+///
+/// # Safety
+///
+/// The state is initialised; only its V may be a number that is no value of V.
 #[inline]
-pub fn call(lent: Lent<'_>, budget: u32, start: MaybeUninit<State>) -> RunNumbers {
+pub unsafe fn call(lent: Lent<'_>, budget: u32, start: MaybeUninit<State>) -> RunNumbers {
     let Lent { opcodes, arguments, keys, ram, stack, roll } = lent;
     // SAFETY: each pointer comes with the length of the slice behind it, and the slices written
-    // to are borrowed for writing during the call, so they overlap nothing. By the library's
-    // contract the flags that come back are 0 or 1 and V's number is one of three.
+    // to are borrowed for writing during the call, so they overlap nothing. The library takes any
+    // number for V; by its contract the flags that come back are 0 or 1, and V one of its values.
     unsafe {
         cesca_run(
             opcodes.as_ptr(),

@@ -15,7 +15,8 @@ fn run(word: [u8; 2], budget: u32, start: MaybeUninit<State>) -> RunNumbers {
         stack: &mut stack,
         roll: &mut [],
     };
-    call(lent, budget, start)
+    // SAFETY: `with_v` makes states that are initialised.
+    unsafe { call(lent, budget, start) }
 }
 
 /// The start state with this number for V.
