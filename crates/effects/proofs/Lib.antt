@@ -1,4 +1,5 @@
 -- Laws that belong to no one function.
 pub mod Branches
 pub mod FourBytes
+pub mod LivePlans
 pub mod OperandsRead

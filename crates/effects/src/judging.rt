@@ -1,22 +1,24 @@
 // What each instruction does, as one function of forty arms: the next state, an act, and cycles.
 use super::Act;
 use super::Effect;
+use super::Live;
 use super::jumping::course_of;
 use super::jumping::followed;
 use super::states;
 use super::states::operand_of;
 use super::states::register_of;
-use alu::Computed;
+use alu::Lazy;
+use alu::functions;
 use isa::Instr;
 use isa::decoding::low_pair;
-use model::State;
 use slices::load;
 ghost use mathlib.Core.Path.{_≡_};
 ghost use mathlib.Core.Bool.{cond};
-ghost use Prim.Native.Nat.{_+_, _≤_};
+ghost use Prim.Native.Nat.{_+_, _%_, _≤_};
 ghost use lib.Dec.{ltb};
 ghost use lib.ListN.{length, getD};
-ghost use Rattle.model.specs.State.{plusOne, minusOne, withRegister, withPc, withSp, withOut, withFlags, withHalted, withPosition};
+ghost use Rattle.model.specs.State.{plusOne, minusOne};
+ghost use Rattle.effects.specs.Live.{stateBy, withRegister, withPc, withSp, withOut, withFlags, withHalted, withPosition};
 ghost use Rattle.model.specs.Step.{fetched};
 ghost use Rattle.isa.specs.Decode.{decodeOf};
 ghost use Rattle.isa.specs.Table.{rowOf, opcodeIn};
@@ -24,7 +26,7 @@ ghost use Rattle.effects.specs.Effects.{effect, judgedBy, judgedOf};
 ghost use Rattle.effects.specs.Operands.{IsOperand};
 
 // A next state, and nothing else.
-pub fn quiet(s: State, n: u8) -> Effect
+pub fn quiet(s: Live, n: u8) -> Effect
     ensures { λ r. ⌜ r ≡ effect s Act.Quiet n ⌝ }
 {
     Effect {
@@ -35,23 +37,24 @@ pub fn quiet(s: State, n: u8) -> Effect
 }
 
 // A result of the ALU: the flags alone.
-fn flagged(s: State, o: Computed, n: u8) -> Effect
-    ensures { λ r. ⌜ r ≡ effect (withFlags s (o .flags)) Act.Quiet n ⌝ }
+fn flagged(s: Live, o: Lazy, n: u8) -> Effect
+    ensures { λ r. ⌜ r ≡ effect (withFlags s (o .wide) (o .v)) Act.Quiet n ⌝ }
 {
-    let f = o.flags;
-    quiet(states::to_flags(s, f), n)
+    let v = o.v;
+    quiet(states::to_flags(s, o.wide, v), n)
 }
 
 // A result of the ALU: the flags and a register.
-fn computed(s: State, d: u8, o: Computed, n: u8) -> Effect
-    ensures { λ r. ⌜ r ≡ effect (withRegister (withFlags s (o .flags)) d (o .value)) Act.Quiet n ⌝ }
+fn computed(s: Live, d: u8, o: Lazy, n: u8) -> Effect
+    ensures { λ r. ⌜ r ≡ effect (withRegister (withFlags s (o .wide) (o .v)) d (o .wide % 256)) Act.Quiet n ⌝ }
 {
-    let f = o.flags;
-    quiet(states::to_register(states::to_flags(s, f), d, o.value), n)
+    let v = o.v;
+    let value = (o.wide % 256) as u8;
+    quiet(states::to_register(states::to_flags(s, o.wide, v), d, value), n)
 }
 
 // The ALU is to be asked, and its result goes to a register.
-fn computing(s: State, d: u8, f: u8, x: u8, y: u8, n: u8) -> Effect
+fn computing(s: Live, d: u8, f: u8, x: u8, y: u8, n: u8) -> Effect
     ensures { λ r. ⌜ r ≡ effect s (Act.Compute d f x y) n ⌝ }
 {
     Effect {
@@ -69,7 +72,7 @@ fn four(regs: [u8; 4]) -> u8
 }
 
 // The ALU is to be asked for its flags alone: no register has the number 4.
-fn comparing(s: State, f: u8, x: u8, y: u8) -> Effect
+fn comparing(s: Live, f: u8, x: u8, y: u8) -> Effect
     ensures { λ r. ⌜ (r ≡ effect s (Act.Compute 4 f x y) 3) × (length (s .regs) ≤ 4) ⌝ }
 {
     let g = s.regs;
@@ -77,14 +80,14 @@ fn comparing(s: State, f: u8, x: u8, y: u8) -> Effect
 }
 
 // A byte to a register.
-fn moved(s: State, d: u8, v: u8, n: u8) -> Effect
+fn moved(s: Live, d: u8, v: u8, n: u8) -> Effect
     ensures { λ r. ⌜ r ≡ effect (withRegister s d v) Act.Quiet n ⌝ }
 {
     quiet(states::to_register(s, d, v), n)
 }
 
 // The next key, unless the keys are at their end.
-fn acknowledged(s: State, keys: &[u8]) -> Effect
+fn acknowledged(s: Live, keys: &[u8]) -> Effect
     ensures { λ r. ⌜ r ≡ effect (cond (ltb (s .position) (length (now (keys .entry)))) (withPosition s (s .position + 1)) s) Act.Quiet 3 ⌝ }
 {
     let p = s.position;
@@ -96,7 +99,7 @@ fn acknowledged(s: State, keys: &[u8]) -> Effect
 }
 
 // A byte to the data bank.
-fn stored(s: State, a: u8, v: u8, n: u8) -> Effect
+fn stored(s: Live, a: u8, v: u8, n: u8) -> Effect
     ensures { λ r. ⌜ r ≡ effect s (Act.Data a v) n ⌝ }
 {
     Effect {
@@ -114,7 +117,7 @@ fn below(a: u8) -> u8
 }
 
 // SP minus one, then the byte at SP.
-fn pushed(s: State, v: u8, n: u8) -> Effect
+fn pushed(s: Live, v: u8, n: u8) -> Effect
     ensures { λ r. ⌜ r ≡ effect (withSp s (minusOne (s .sp))) (Act.Stack (minusOne (s .sp)) v) n ⌝ }
 {
     let a = below(s.sp);
@@ -127,7 +130,7 @@ fn pushed(s: State, v: u8, n: u8) -> Effect
 }
 
 // The byte v at SP was read; then SP plus one.
-fn popped(s: State, d: u8, v: u8) -> Effect
+fn popped(s: Live, d: u8, v: u8) -> Effect
     ensures { λ r. ⌜ r ≡ effect (withRegister (withSp s (plusOne (s .sp))) d v) Act.Quiet 4 ⌝ }
 {
     let a = std::num::wrapping_add_u8(s.sp, 1);
@@ -135,7 +138,7 @@ fn popped(s: State, d: u8, v: u8) -> Effect
 }
 
 // The byte v goes to SP, and the old byte there to a register.
-fn swapped(s: State, d: u8, old: u8, v: u8) -> Effect
+fn swapped(s: Live, d: u8, old: u8, v: u8) -> Effect
     ensures { λ r. ⌜ r ≡ effect (withRegister s d old) (Act.Stack (s .sp) v) 5 ⌝ }
 {
     let t = states::to_register(s, d, old);
@@ -147,14 +150,14 @@ fn swapped(s: State, d: u8, old: u8, v: u8) -> Effect
 }
 
 // The address after the call is pushed, and PC is the target.
-fn called(s: State, a: u8) -> Effect
+fn called(s: Live, a: u8) -> Effect
     ensures { λ r. ⌜ r ≡ effect (withSp (withPc s a) (minusOne (s .sp))) (Act.Stack (minusOne (s .sp)) (s .pc)) 6 ⌝ }
 {
     pushed(states::to_pc(s, a), s.pc, 6)
 }
 
 // The byte v at SP was read and is PC; SP plus one.
-fn returned(s: State, v: u8) -> Effect
+fn returned(s: Live, v: u8) -> Effect
     ensures { λ r. ⌜ r ≡ effect (withPc (withSp s (plusOne (s .sp))) v) Act.Quiet 4 ⌝ }
 {
     let a = std::num::wrapping_add_u8(s.sp, 1);
@@ -162,7 +165,7 @@ fn returned(s: State, v: u8) -> Effect
 }
 
 // A word to the roll.
-fn sent(s: State, w: u16, n: u8) -> Effect
+fn sent(s: Live, w: u16, n: u8) -> Effect
     ensures { λ r. ⌜ r ≡ effect s (Act.Roll w) n ⌝ }
 {
     Effect {
@@ -173,7 +176,7 @@ fn sent(s: State, w: u16, n: u8) -> Effect
 }
 
 // A byte to the output register.
-fn shown(s: State, v: u8, n: u8) -> Effect
+fn shown(s: Live, v: u8, n: u8) -> Effect
     ensures { λ r. ⌜ r ≡ effect (withOut s v) Act.Quiet n ⌝ }
 {
     quiet(states::to_out(s, v), n)
@@ -189,18 +192,18 @@ fn word(v: u8) -> u16
 // The effect of an instruction at the state before its fetch. Ra's byte x comes from the caller, who
 // reads it before the form is known: it has the same two bits in every opcode that has an Ra. Read in
 // the arms, the registers did not stay in a CPU register from step to step.
-fn judge(instr: Instr, x: u8, before: State, keys: &[u8], ram: &[u8], stack: &[u8]) -> Effect
-    requires { ⌜ IsOperand before x (opcodeIn (rowOf instr)) ⌝ }
-    ensures { λ r. ⌜ judgedBy r ≡ judgedOf instr (fetched before) (getD (now (stack .entry)) (before .sp) 0) (now (ram .entry)) (now (keys .entry)) ⌝ }
+fn judge(instr: Instr, x: u8, before: Live, keys: &[u8], ram: &[u8], stack: &[u8]) -> Effect
+    requires { ⌜ IsOperand (stateBy before) x (opcodeIn (rowOf instr)) ⌝ }
+    ensures { λ r. ⌜ judgedBy r ≡ judgedOf instr (fetched (stateBy before)) (getD (now (stack .entry)) (before .sp) 0) (now (ram .entry)) (now (keys .entry)) ⌝ }
 {
     let s = states::to_pc(before, std::num::wrapping_add_u8(before.pc, 1));
     match instr {
         Instr::Alu(d, a, f, b) => computing(s, d, f, x, operand_of(s, b), 4),
-        Instr::AddImm(d, a, i) => computed(s, d, alu::sum(x, i, false), 4),
+        Instr::AddImm(d, a, i) => computed(s, d, functions::sum(x, i, false), 4),
         Instr::AluNone(a, f, b) => comparing(s, f, x, register_of(s, b)),
-        Instr::CmpImm(a, i) => flagged(s, alu::difference(x, i, false), 3),
-        Instr::MaskImm(a, i) => flagged(s, alu::plain(x & i), 3),
-        Instr::MaskIn(i) => flagged(s, alu::plain(slices::byte_at(keys, s.position) & i), 5),
+        Instr::CmpImm(a, i) => flagged(s, functions::difference(x, i, false), 3),
+        Instr::MaskImm(a, i) => flagged(s, functions::plain(x & i), 3),
+        Instr::MaskIn(i) => flagged(s, functions::plain(slices::byte_at(keys, s.position) & i), 5),
         Instr::MovImm(d, i) => moved(s, d, i, 3),
         Instr::MovIn(d) => moved(s, d, slices::byte_at(keys, s.position), 4),
         Instr::Ack => acknowledged(s, keys),
@@ -228,8 +231,8 @@ fn judge(instr: Instr, x: u8, before: State, keys: &[u8], ram: &[u8], stack: &[u
 }
 
 // The effect of the instruction that two bytes make, at the state before its fetch.
-pub fn execute(opcode: u8, argument: u8, s: State, keys: &[u8], ram: &[u8], stack: &[u8]) -> Effect
-    ensures { λ r. ⌜ judgedBy r ≡ judgedOf (decodeOf opcode argument) (fetched s) (getD (now (stack .entry)) (s .sp) 0) (now (ram .entry)) (now (keys .entry)) ⌝ }
+pub fn execute(opcode: u8, argument: u8, s: Live, keys: &[u8], ram: &[u8], stack: &[u8]) -> Effect
+    ensures { λ r. ⌜ judgedBy r ≡ judgedOf (decodeOf opcode argument) (fetched (stateBy s)) (getD (now (stack .entry)) (s .sp) 0) (now (ram .entry)) (now (keys .entry)) ⌝ }
 {
     let x = operand_of(s, low_pair(opcode));
     let instr = isa::decode(opcode, argument);

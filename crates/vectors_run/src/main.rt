@@ -82,7 +82,17 @@ fn vector(name: &[u8], listing: &[u8], at: u8, keys: &[u8], budget: u32, s: Stat
 // A halted state.
 fn halted(pc: u8) -> State {
     let s = state(pc, 255, 0, 0, Overflow::Unsettled, 0);
-    effects::states::to_halted(s, true)
+    let regs = s.regs;
+    let flags = s.flags;
+    State {
+        regs: regs,
+        pc: s.pc,
+        sp: s.sp,
+        out: s.out,
+        flags: flags,
+        halted: true,
+        position: s.position,
+    }
 }
 
 // Listing A, and instructions that compute.

@@ -2,6 +2,7 @@
 -- Assumes nothing.
 use mathlib.Core.Path.{_∙_}
 use borrow.Author.Needs.{needs}
+use Rattle.effects.specs.Live.{stateBy}
 use Rattle.effects.proofs.OperandsRead.{decoded-operand}
 use Rattle.effects.proofs.judging.execute.Statement.{statement}
 use Rattle.effects.proofs.judging.execute.Tie as tie
@@ -10,7 +11,7 @@ judge-requires : tie.Need-judge-requires
 judge-requires c κs =
     let a = c .before .before .before .before .before .before .args in
     rw (c .decode .ensures .table)
-    (decoded-operand (a .s) (c .before .operand-of .result) (a .opcode) (a .argument) (c .before .operand-of .ensures ∙ rw (c .before .before .low-pair .ensures)))
+    (decoded-operand (stateBy (a .s)) (c .before .operand-of .result) (a .opcode) (a .argument) (c .before .operand-of .ensures ∙ rw (c .before .before .low-pair .ensures)))
 
 pub execute-spec : {M : Type 1} → statement M
 execute-spec =

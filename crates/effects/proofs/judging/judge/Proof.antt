@@ -1,19 +1,28 @@
 -- Each arm is its clause: the form, and what its calls give. The four forms with an ALU function of their own look into the ALU's table.
 -- Assumes nothing.
 use mathlib.Core.Path.{_≡_, ap, _∙_}
-use lib.ListN.{getD}
+use Prim.Native.Nat.{_+_}
+use lib.Dec.{ltb}
+use lib.ListN.{getD, length}
 use lib.Seq.{set-out}
 use Rattle.alu.specs.Alu.{aluOf}
-use Rattle.model.specs.State.{withPc}
-use Rattle.model.specs.Step.{fetched}
+use Rattle.model.specs.State.{plusOne}
 use Rattle.model.specs.declared.State.{State}
 use borrow.Author.Needs.{needs}
 use Rattle.effects.specs.Effects.{judgedBy, judgedOf}
+use Rattle.effects.specs.Live.{stateBy, withPc, withPosition}
+use Rattle.effects.specs.declared.Act.the-variants.{Quiet}
+use Rattle.effects.specs.declared.Live.{Live}
 use Rattle.effects.proofs.Branches.{is-branch}
+use Rattle.effects.proofs.LivePlans.{chosen, flagged-as, computed-as}
 use Rattle.effects.proofs.judging.judge.Statement.{statement}
 use Rattle.effects.proofs.judging.judge.Tie as tie
 
-at-fetch : (c : tie.After-to-pc) → c .to-pc .result ≡ fetched (c .before .before .before .before .before .args .before)
+-- the state after the fetch
+abbrev after : tie.After-to-pc → Live
+after c = let s = c .before .before .before .before .before .args .before in withPc s (plusOne (s .pc))
+
+at-fetch : (c : tie.After-to-pc) → c .to-pc .result ≡ after c
 at-fetch c = c .to-pc .ensures ∙ ap (withPc (c .before .before .before .before .before .args .before)) (c .before .wrapping-add-u8 .ensures)
 
 returns : tie.Need-returns
@@ -21,22 +30,22 @@ returns c = let h = rw (c .before .before .before .instr .given .1) at (c .befor
 
 returns-2 : tie.Need-returns-2
 unfolding aluOf
-returns-2 c = let h = rw (c .before .before .before .instr2 .given .1) at (c .before .before .before .before .before .before .before .before .before .before .pre) in rw (c .before .before .before .instr2 .given .1, c .computed .ensures, c .before .sum .ensures, h, at-fetch (c .before .before .before .before .before))
+returns-2 c = let h = rw (c .before .before .before .instr2 .given .1) at (c .before .before .before .before .before .before .before .before .before .before .pre) in rw (c .before .before .before .instr2 .given .1, c .computed .ensures, at-fetch (c .before .before .before .before .before)) (computed-as (after (c .before .before .before .before .before)) (c .before .sum .result) _ 4 (c .before .sum .ensures) _ ∙ rw (h))
 
 returns-3 : tie.Need-returns-3
 returns-3 c = let h = rw (c .before .before .before .instr3 .given .1) at (c .before .before .before .before .before .before .before .before .before .before .pre) in rw (c .before .before .before .instr3 .given .1, c .comparing .ensures .0, c .before .register-of .ensures, h, set-out (c .before .before .before .before .before .to-pc .result .regs) 4 _ (c .comparing .ensures .1), at-fetch (c .before .before .before .before .before))
 
 returns-4 : tie.Need-returns-4
 unfolding aluOf
-returns-4 c = let h = rw (c .before .before .before .instr4 .given .1) at (c .before .before .before .before .before .before .before .before .before .before .pre) in rw (c .before .before .before .instr4 .given .1, c .flagged .ensures, c .before .difference .ensures, h, at-fetch (c .before .before .before .before .before))
+returns-4 c = let h = rw (c .before .before .before .instr4 .given .1) at (c .before .before .before .before .before .before .before .before .before .before .pre) in rw (c .before .before .before .instr4 .given .1, c .flagged .ensures, at-fetch (c .before .before .before .before .before)) (flagged-as (after (c .before .before .before .before .before)) (c .before .difference .result) _ 3 (c .before .difference .ensures) ∙ rw (h))
 
 returns-5 : tie.Need-returns-5
 unfolding aluOf
-returns-5 c = let h = rw (c .before .before .before .instr5 .given .1) at (c .before .before .before .before .before .before .before .before .before .before .pre) in rw (c .before .before .before .instr5 .given .1, c .flagged2 .ensures, c .before .plain .ensures, h, at-fetch (c .before .before .before .before .before))
+returns-5 c = let h = rw (c .before .before .before .instr5 .given .1) at (c .before .before .before .before .before .before .before .before .before .before .pre) in rw (c .before .before .before .instr5 .given .1, c .flagged2 .ensures, at-fetch (c .before .before .before .before .before)) (flagged-as (after (c .before .before .before .before .before)) (c .before .plain .result) _ 3 (c .before .plain .ensures) ∙ rw (h))
 
 returns-6 : tie.Need-returns-6
 unfolding aluOf
-returns-6 c = rw (c .before .before .before .before .instr6 .given .1, c .flagged3 .ensures, c .before .plain2 .ensures, c .before .before .byte-at .ensures, at-fetch (c .before .before .before .before .before .before))
+returns-6 c = rw (c .before .before .before .before .instr6 .given .1, c .flagged3 .ensures, at-fetch (c .before .before .before .before .before .before)) (flagged-as (after (c .before .before .before .before .before .before)) (c .before .plain2 .result) _ 5 (c .before .plain2 .ensures) ∙ rw (c .before .before .byte-at .ensures, at-fetch (c .before .before .before .before .before .before)))
 
 returns-7 : tie.Need-returns-7
 returns-7 c = rw (c .before .before .instr7 .given .1, c .moved .ensures, at-fetch (c .before .before .before .before))
@@ -45,7 +54,7 @@ returns-8 : tie.Need-returns-8
 returns-8 c = rw (c .before .before .before .instr8 .given .1, c .moved2 .ensures, c .before .byte-at2 .ensures, at-fetch (c .before .before .before .before .before))
 
 returns-9 : tie.Need-returns-9
-returns-9 c = rw (c .before .enum-told .given .1, c .acknowledged .ensures, at-fetch (c .before .before .before))
+returns-9 c = rw (c .before .enum-told .given .1, c .acknowledged .ensures, at-fetch (c .before .before .before)) (let a = c .before .before .before .before .before .before .before .before .args in let s = after (c .before .before .before) in chosen (ltb (s .position) (length (a .keys .now))) (withPosition s (s .position + 1)) s Quiet 3)
 
 returns-10 : tie.Need-returns-10
 returns-10 c = let h = rw (c .before .before .instr9 .given .1) at (c .before .before .before .before .before .before .before .before .before .pre) in rw (c .before .before .instr9 .given .1, c .stored .ensures, h, at-fetch (c .before .before .before .before))
@@ -110,7 +119,7 @@ returns-29 c =
     let top = getD (a .stack .now) (a .before .sp) 0 in
     ap judgedBy (c .followed .ensures)
     ∙ c .before .course-of .ensures top (a .ram .now) (a .keys .now)
-    ∙ ap (λ (t : State). judgedOf (a .instr) t top (a .ram .now) (a .keys .now)) (at-fetch (c .before .before .before))
+    ∙ ap (λ (t : Live). judgedOf (a .instr) (stateBy t) top (a .ram .now) (a .keys .now)) (at-fetch (c .before .before .before))
 
 pub judge-spec : {M : Type 1} → statement M
 judge-spec =
