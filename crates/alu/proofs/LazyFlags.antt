@@ -9,16 +9,20 @@ use lib.Dec.{eqb, leb, ltb}
 use borrow.Author.Tests.{ltb-true, ltb-false, leb-true, leb-false}
 use Rattle.slices.proofs.Bools.{by-test}
 use Rattle.alu.specs.Alu.{computedOf, plainOf, shiftedLeftOf}
-use Rattle.alu.specs.Lazy.{carryBy, signBy, zeroBy, overflowBy, flagsBy, computedBy, wideOf}
+use Rattle.alu.specs.Lazy.{carryBy, signBy, overflowBy, flagsBy, computedBy, wideOf}
 use Rattle.alu.specs.declared.Computed.{Computed}
 use Rattle.alu.specs.declared.Flags.{Flags}
 use Rattle.alu.specs.declared.Lazy.{Lazy}
+use Rattle.alu.specs.declared.Overflow.{Overflow}
 use Rattle.alu.specs.declared.OverflowByte.{OverflowByte}
 use Rattle.alu.specs.declared.OverflowByte.the-variants.{Unsettled}
-use Rattle.alu.proofs.Wraps.{same-computed}
 
-abbrev lazy : ℕ → OverflowByte → Lazy
-lazy n v = record { wide = n; v = v }
+abbrev lazy : ℕ → ℕ → OverflowByte → Lazy
+lazy m n v = record { value = m; wide = n; v = v }
+
+-- results are equal part by part
+same-computed : {m n : ℕ} {c d : Bool} {v w : Overflow} → m ≡ n → c ≡ d → v ≡ w → computedOf m c v ≡ computedOf n d w
+same-computed p q r = cc
 
 -- a bit that is 1 exactly where a test holds is that test
 told-by : (b : ℕ) (t : Bool) → (t ≡ true → b ≡ 1) → (t ≡ false → b ≡ 0) → eqb b 1 ≡ t
@@ -36,38 +40,38 @@ sign-told n h =
     ∙ or-none (eqb (n / 128 % 2) 1)
     ∙ told-by (n / 128 % 2) (leb 128 (n % 256)) (λ e. let l = leb-true 128 (n % 256) e in omega arith) (λ e. let l = leb-false 128 (n % 256) e in omega arith)
 
--- a result with another S in it
-abbrev signed : ℕ → OverflowByte → Bool → Computed
-signed n v s = record { value = n % 256; flags = record { z = zeroBy n; c = carryBy n; s = s; v = overflowBy v } }
+-- a result m, with Z of k, and an S
+abbrev signed : ℕ → ℕ → ℕ → OverflowByte → Bool → Computed
+signed m k n v s = record { value = m; flags = record { z = eqb k 0; c = carryBy n; s = s; v = overflowBy v } }
 
-computed-told : (n : ℕ) (v : OverflowByte) → n < 1024 → computedBy (lazy n v) ≡ computedOf (n % 256) (carryBy n) (overflowBy v)
-computed-told n v h = ap (signed n v) (sign-told n h)
+computed-told : (m n : ℕ) (v : OverflowByte) → n % 256 ≡ m → n < 1024 → computedBy (lazy m n v) ≡ computedOf m (carryBy n) (overflowBy v)
+computed-told m n v e h = ap (signed m (n % 256) n v) (sign-told n h) ∙ ap (λ (k : ℕ). signed m k n v (leb 128 k)) e
 
-pub plain-told : (n : ℕ) → n < 256 → computedBy (lazy n Unsettled) ≡ plainOf n
+pub plain-told : (n : ℕ) → n < 256 → computedBy (lazy n n Unsettled) ≡ plainOf n
 plain-told n h =
     let none : n / 256 % 2 ≡ 0 = omega arith in
-    computed-told n Unsettled (omega arith)
-    ∙ same-computed (omega arith) (ap (λ (k : ℕ). eqb k 1) none) refl
+    computed-told n n Unsettled (omega arith) (omega arith) ∙ same-computed refl (ap (λ (k : ℕ). eqb k 1) none) refl
 
-pub shifted-told : (x low : ℕ) → x < 256 → low ≤ 1 → computedBy (lazy (2 * x + low) Unsettled) ≡ shiftedLeftOf x (x * 2 % 256 + low)
-shifted-told x low hx few =
-    computed-told (2 * x + low) Unsettled (omega arith)
-    ∙ same-computed (omega arith)
+pub shifted-told : (x low r : ℕ) → x < 256 → low ≤ 1 → r ≡ x * 2 % 256 + low → computedBy (lazy r (2 * x + low) Unsettled) ≡ shiftedLeftOf x (x * 2 % 256 + low)
+shifted-told x low r hx few e =
+    computed-told r (2 * x + low) Unsettled (omega arith) (omega arith)
+    ∙ same-computed e
     (told-by ((2 * x + low) / 256 % 2) (leb 128 x) (λ e. let l = leb-true 128 x e in omega arith) (λ e. let l = leb-false 128 x e in omega arith))
     refl
 
-module _ (x y k : ℕ) (v : OverflowByte) (hx : x < 256) (hy : y < 256) (few : k ≤ 1) where
-  pub sum-told : computedBy (lazy (x + y + k) v) ≡ computedOf ((x + y + k) % 256) (ltb 255 (x + y + k)) (overflowBy v)
-  sum-told =
-      computed-told (x + y + k) v (omega arith)
-      ∙ same-computed refl
+module _ (x y k r : ℕ) (v : OverflowByte) (hx : x < 256) (hy : y < 256) (few : k ≤ 1) where
+  pub sum-told : r ≡ (x + y + k) % 256 → computedBy (lazy r (x + y + k) v) ≡ computedOf ((x + y + k) % 256) (ltb 255 (x + y + k)) (overflowBy v)
+  sum-told e =
+      computed-told r (x + y + k) v (sym e) (omega arith)
+      ∙ same-computed e
       (told-by ((x + y + k) / 256 % 2) (ltb 255 (x + y + k)) (λ e. let l = ltb-true 255 (x + y + k) e in omega arith) (λ e. let l = ltb-false 255 (x + y + k) e in omega arith))
       refl
 
-  pub difference-told : computedBy (lazy (512 + x - y - k) v) ≡ computedOf ((256 + x - (y + k)) % 256) (ltb x (y + k)) (overflowBy v)
-  difference-told =
-      computed-told (512 + x - y - k) v (omega arith)
-      ∙ same-computed (omega arith)
+  pub difference-told : r ≡ (256 + x - (y + k)) % 256
+      → computedBy (lazy r (512 + x - y - k) v) ≡ computedOf ((256 + x - (y + k)) % 256) (ltb x (y + k)) (overflowBy v)
+  difference-told e =
+      computed-told r (512 + x - y - k) v (omega arith) (omega arith)
+      ∙ same-computed e
       (told-by ((512 + x - y - k) / 256 % 2) (ltb x (y + k)) (λ e. let l = ltb-true x (y + k) e in omega arith) (λ e. let l = ltb-false x (y + k) e in omega arith))
       refl
 

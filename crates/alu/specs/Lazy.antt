@@ -1,4 +1,4 @@
--- A result whose flags are told only when they are asked for, as the code has it: a number that has the result in its lowest eight bits, and V.
+-- A result whose flags are told only when they are asked for, as the code has it: the result, a number that has it in its lowest eight bits, and V.
 -- No promise rests on it but through `aluOf`.
 -- Assumes nothing.
 use Prim.Native.Nat.{ℕ, _+_, _*_, _/_, _%_}
@@ -33,7 +33,7 @@ abbrev pub flagsBy : ℕ → OverflowByte → Flags
 flagsBy n v = record { z = zeroBy n; c = carryBy n; s = signBy n; v = overflowBy v }
 
 abbrev pub computedBy : Lazy → Computed
-computedBy r = record { value = r .wide % 256; flags = flagsBy (r .wide) (r .v) }
+computedBy r = record { value = r .value; flags = flagsBy (r .wide) (r .v) }
 
 -- a number that has these flags
 abbrev pub wideOf : Bool → Bool → Bool → ℕ

@@ -1,9 +1,11 @@
-// The sixteen functions with lazy flags. Most flags are never asked for: a run that makes all four at
-// each step took a seventh longer on ALU code.
+// The sixteen functions with lazy flags. Most flags are never asked for, so a run makes them only
+// where a jump asks, and at its end.
 use super::Flags;
 use super::Lazy;
 use super::Overflow;
 use super::OverflowByte;
+use std::num::wrapping_add_u8;
+use std::num::wrapping_sub_u8;
 ghost use mathlib.Core.Path.{_≡_};
 ghost use Prim.Native.Nat.{_+_, _*_, _/_, _%_, _≤_};
 ghost use lib.Bits.{bitAnd};
@@ -70,11 +72,15 @@ pub fn byte_of(v: Overflow) -> OverflowByte
 fn settled_byte(set: bool) -> OverflowByte
     ensures { λ r. ⌜ overflowBy r ≡ Overflow.Settled set ⌝ }
 {
-    if set { OverflowByte::Set } else { OverflowByte::Clear }
+    if set {
+        OverflowByte::Set
+    } else {
+        OverflowByte::Clear
+    }
 }
 
 // The number that a flag carries or borrows.
-fn bit_of(flag: bool) -> u32
+fn bit_of(flag: bool) -> u8
     ensures { λ r. ⌜ (r ≡ bit flag) × (r ≤ 1) ⌝ }
 {
     if flag { 1 } else { 0 }
@@ -84,7 +90,7 @@ fn bit_of(flag: bool) -> u32
 pub fn wide_of(z: bool, c: bool, s: bool) -> u32
     ensures { λ r. ⌜ r ≡ wideOf z c s ⌝ }
 {
-    bit_of(!z) + 256 * bit_of(c) + 1024 * bit_of(s)
+    (bit_of(!z) as u32) + 256 * (bit_of(c) as u32) + 1024 * (bit_of(s) as u32)
 }
 
 // Whether both bytes have bit 7 set.
@@ -99,6 +105,7 @@ pub fn plain(n: u8) -> Lazy
     ensures { λ r. ⌜ computedBy r ≡ plainOf n ⌝ }
 {
     Lazy {
+        value: n,
         wide: n as u32,
         v: OverflowByte::Unsettled,
     }
@@ -109,10 +116,15 @@ pub fn plain(n: u8) -> Lazy
 pub fn sum(x: u8, y: u8, k: bool) -> Lazy
     ensures { λ r. ⌜ computedBy r ≡ sumOf x y k ⌝ }
 {
-    let n = (x as u32) + (y as u32) + bit_of(k);
-    let r = (n % 256) as u8;
+    let b = bit_of(k);
+    let t = wrapping_add_u8(x, y);
+    let r = wrapping_add_u8(t, b);
     let v = settled_byte(both_high(x ^ r, y ^ r));
-    Lazy { wide: n, v: v }
+    Lazy {
+        value: r,
+        wide: (x as u32) + (y as u32) + (b as u32),
+        v: v,
+    }
 }
 
 // x - y - k, with the borrow and the signed overflow: V is set where x and y have different signs
@@ -120,10 +132,15 @@ pub fn sum(x: u8, y: u8, k: bool) -> Lazy
 pub fn difference(x: u8, y: u8, k: bool) -> Lazy
     ensures { λ r. ⌜ computedBy r ≡ differenceOf x y k ⌝ }
 {
-    let n = 512 + (x as u32) - (y as u32) - bit_of(k);
-    let r = (n % 256) as u8;
+    let b = bit_of(k);
+    let t = wrapping_sub_u8(x, y);
+    let r = wrapping_sub_u8(t, b);
     let v = settled_byte(both_high(x ^ y, x ^ r));
-    Lazy { wide: n, v: v }
+    Lazy {
+        value: r,
+        wide: 512 + (x as u32) - (y as u32) - (b as u32),
+        v: v,
+    }
 }
 
 // x moved left by one place, a bit coming in: the carry is x's old bit 7.
@@ -133,6 +150,7 @@ fn shifted_left(x: u8, low: u8) -> Lazy
 {
     let v = OverflowByte::Unsettled;
     Lazy {
+        value: (x << 1) | low,
         wide: 2 * (x as u32) + (low as u32),
         v: v,
     }

@@ -1,6 +1,6 @@
 -- What is judged of an effect whose state is chosen by a test, or has the flags of a result.
 -- Assumes nothing.
-use Prim.Native.Nat.{ℕ, _%_}
+use Prim.Native.Nat.{ℕ}
 use mathlib.Core.Path.{_≡_, refl, ap}
 use mathlib.Core.Bool.{Bool, true, false, cond}
 use Rattle.alu.specs.Lazy.{computedBy}
@@ -22,6 +22,6 @@ module _ (s : Live) (o : Lazy) (r : Computed) (n : ℕ) (e : computedBy o ≡ r)
   flagged-as = ap (λ (k : Computed). judged (state.withFlags (stateBy s) (k .flags)) Quiet n) e
 
   pub computed-as : (d : ℕ)
-      → judgedBy (effect (withRegister (withFlags s (o .wide) (o .v)) d (o .wide % 256)) Quiet n)
+      → judgedBy (effect (withRegister (withFlags s (o .wide) (o .v)) d (o .value)) Quiet n)
       ≡ judged (state.withRegister (state.withFlags (stateBy s) (r .flags)) d (r .value)) Quiet n
   computed-as d = ap (λ (k : Computed). judged (state.withRegister (state.withFlags (stateBy s) (k .flags)) d (k .value)) Quiet n) e

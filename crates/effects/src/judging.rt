@@ -14,7 +14,7 @@ use isa::decoding::low_pair;
 use slices::load;
 ghost use mathlib.Core.Path.{_≡_};
 ghost use mathlib.Core.Bool.{cond};
-ghost use Prim.Native.Nat.{_+_, _%_, _≤_};
+ghost use Prim.Native.Nat.{_+_, _≤_};
 ghost use lib.Dec.{ltb};
 ghost use lib.ListN.{length, getD};
 ghost use Rattle.model.specs.State.{plusOne, minusOne};
@@ -46,11 +46,13 @@ fn flagged(s: Live, o: Lazy, n: u8) -> Effect
 
 // A result of the ALU: the flags and a register.
 fn computed(s: Live, d: u8, o: Lazy, n: u8) -> Effect
-    ensures { λ r. ⌜ r ≡ effect (withRegister (withFlags s (o .wide) (o .v)) d (o .wide % 256)) Act.Quiet n ⌝ }
+    ensures { λ r. ⌜ r ≡ effect (withRegister (withFlags s (o .wide) (o .v)) d (o .value)) Act.Quiet n ⌝ }
 {
     let v = o.v;
-    let value = (o.wide % 256) as u8;
-    quiet(states::to_register(states::to_flags(s, o.wide, v), d, value), n)
+    quiet(
+        states::to_register(states::to_flags(s, o.wide, v), d, o.value),
+        n,
+    )
 }
 
 // The ALU is to be asked, and its result goes to a register.
@@ -198,12 +200,16 @@ fn judge(instr: Instr, x: u8, before: Live, keys: &[u8], ram: &[u8], stack: &[u8
 {
     let s = states::to_pc(before, std::num::wrapping_add_u8(before.pc, 1));
     match instr {
-        Instr::Alu(d, a, f, b) => computing(s, d, f, x, operand_of(s, b), 4),
+        Instr::Alu(d, a, f, b) => computing(s, d, f, x, register_of(s, b), 4),
         Instr::AddImm(d, a, i) => computed(s, d, functions::sum(x, i, false), 4),
         Instr::AluNone(a, f, b) => comparing(s, f, x, register_of(s, b)),
         Instr::CmpImm(a, i) => flagged(s, functions::difference(x, i, false), 3),
         Instr::MaskImm(a, i) => flagged(s, functions::plain(x & i), 3),
-        Instr::MaskIn(i) => flagged(s, functions::plain(slices::byte_at(keys, s.position) & i), 5),
+        Instr::MaskIn(i) => flagged(
+            s,
+            functions::plain(slices::byte_at(keys, s.position) & i),
+            5,
+        ),
         Instr::MovImm(d, i) => moved(s, d, i, 3),
         Instr::MovIn(d) => moved(s, d, slices::byte_at(keys, s.position), 4),
         Instr::Ack => acknowledged(s, keys),

@@ -5,4 +5,4 @@ use Rattle.alu.proofs.told.Statement.{statement}
 use Rattle.alu.proofs.told.Tie as tie
 
 pub told-spec : {M : Type 1} → statement M
-told-spec = tie.close (tie.spec (λ c κs. search needs) (λ c. search needs) (λ c. rw (c .before .flags-of .ensures)))
+told-spec = tie.close (tie.spec (λ c κs. search needs) (λ c. rw (c .flags-of .ensures)))

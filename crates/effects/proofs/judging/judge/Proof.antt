@@ -26,14 +26,14 @@ at-fetch : (c : tie.After-to-pc) → c .to-pc .result ≡ after c
 at-fetch c = c .to-pc .ensures ∙ ap (withPc (c .before .before .before .before .before .args .before)) (c .before .wrapping-add-u8 .ensures)
 
 returns : tie.Need-returns
-returns c = let h = rw (c .before .before .before .instr .given .1) at (c .before .before .before .before .before .before .before .before .before .before .pre) in rw (c .before .before .before .instr .given .1, c .computing .ensures, c .before .operand-of .ensures, h, at-fetch (c .before .before .before .before .before))
+returns c = let h = rw (c .before .before .before .instr .given .1) at (c .before .before .before .before .before .before .before .before .before .before .pre) in rw (c .before .before .before .instr .given .1, c .computing .ensures, c .before .register-of .ensures, h, at-fetch (c .before .before .before .before .before))
 
 returns-2 : tie.Need-returns-2
 unfolding aluOf
 returns-2 c = let h = rw (c .before .before .before .instr2 .given .1) at (c .before .before .before .before .before .before .before .before .before .before .pre) in rw (c .before .before .before .instr2 .given .1, c .computed .ensures, at-fetch (c .before .before .before .before .before)) (computed-as (after (c .before .before .before .before .before)) (c .before .sum .result) _ 4 (c .before .sum .ensures) _ ∙ rw (h))
 
 returns-3 : tie.Need-returns-3
-returns-3 c = let h = rw (c .before .before .before .instr3 .given .1) at (c .before .before .before .before .before .before .before .before .before .before .pre) in rw (c .before .before .before .instr3 .given .1, c .comparing .ensures .0, c .before .register-of .ensures, h, set-out (c .before .before .before .before .before .to-pc .result .regs) 4 _ (c .comparing .ensures .1), at-fetch (c .before .before .before .before .before))
+returns-3 c = let h = rw (c .before .before .before .instr3 .given .1) at (c .before .before .before .before .before .before .before .before .before .before .pre) in rw (c .before .before .before .instr3 .given .1, c .comparing .ensures .0, c .before .register-of2 .ensures, h, set-out (c .before .before .before .before .before .to-pc .result .regs) 4 _ (c .comparing .ensures .1), at-fetch (c .before .before .before .before .before))
 
 returns-4 : tie.Need-returns-4
 unfolding aluOf
@@ -60,7 +60,7 @@ returns-10 : tie.Need-returns-10
 returns-10 c = let h = rw (c .before .before .instr9 .given .1) at (c .before .before .before .before .before .before .before .before .before .pre) in rw (c .before .before .instr9 .given .1, c .stored .ensures, h, at-fetch (c .before .before .before .before))
 
 returns-11 : tie.Need-returns-11
-returns-11 c = let h = rw (c .before .before .before .instr10 .given .1) at (c .before .before .before .before .before .before .before .before .before .before .pre) in rw (c .before .before .before .instr10 .given .1, c .stored2 .ensures, c .before .register-of2 .ensures, h, at-fetch (c .before .before .before .before .before))
+returns-11 c = let h = rw (c .before .before .before .instr10 .given .1) at (c .before .before .before .before .before .before .before .before .before .before .pre) in rw (c .before .before .before .instr10 .given .1, c .stored2 .ensures, c .before .register-of3 .ensures, h, at-fetch (c .before .before .before .before .before))
 
 returns-12 : tie.Need-returns-12
 returns-12 c = let h = rw (c .before .before .instr11 .given .1) at (c .before .before .before .before .before .before .before .before .before .pre) in rw (c .before .before .instr11 .given .1, c .pushed .ensures, h, at-fetch (c .before .before .before .before))
