@@ -68,8 +68,8 @@ pub fn read(regs: [u8; 4], r: u8) -> u8
 }
 
 // The same, cut out of the number that the four make: sooner done where a register was just written,
-// since it doesn't wait for memory. The run has both: with every register cut out, the number itself
-// lay on the stack and a step took six instructions more.
+// since it doesn't wait for memory. The run has both: with Rb cut out too, a step took four
+// instructions more.
 pub fn cut(regs: [u8; 4], r: u8) -> u8
     ensures { λ n. ⌜ n ≡ getD regs r 0 ⌝ }
 {
