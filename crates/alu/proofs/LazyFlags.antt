@@ -4,7 +4,7 @@
 use Prim.Native.Nat.{ℕ, _+_, _-_, _*_, _/_, _%_, _≤_, _<_}
 use native.Mathlib.Omega.{arith}
 use mathlib.Core.Path.{_≡_, refl, sym, ap, _∙_}
-use mathlib.Core.Bool.{Bool, true, false, _||_}
+use mathlib.Core.Bool.{Bool, true, false, _||_, or-false}
 use lib.Dec.{eqb, leb, ltb}
 use borrow.Author.Tests.{ltb-true, ltb-false, leb-true, leb-false}
 use Rattle.slices.proofs.Bools.{by-test}
@@ -29,15 +29,11 @@ told-by : (b : ℕ) (t : Bool) → (t ≡ true → b ≡ 1) → (t ≡ false →
 told-by b true up down = ap (λ (k : ℕ). eqb k 1) (up refl)
 told-by b false up down = ap (λ (k : ℕ). eqb k 1) (down refl)
 
-or-none : (a : Bool) → a || false ≡ a
-or-none true = refl
-or-none false = refl
-
 sign-told : (n : ℕ) → n < 1024 → signBy n ≡ leb 128 (n % 256)
 sign-told n h =
     let none : n / 1024 % 2 ≡ 0 = omega arith in
     ap (λ (k : ℕ). eqb (n / 128 % 2) 1 || eqb k 1) none
-    ∙ or-none (eqb (n / 128 % 2) 1)
+    ∙ or-false (eqb (n / 128 % 2) 1)
     ∙ told-by (n / 128 % 2) (leb 128 (n % 256)) (λ e. let l = leb-true 128 (n % 256) e in omega arith) (λ e. let l = leb-false 128 (n % 256) e in omega arith)
 
 -- a result m, with Z of k, and an S

@@ -1,5 +1,5 @@
 // The sixteen functions with lazy flags. Most flags are never asked for, so a run makes them only
-// where a jump asks, and at its end.
+// where a jump, addc or subb asks, and at its end.
 use super::Flags;
 use super::Lazy;
 use super::Overflow;
