@@ -240,7 +240,7 @@ fn judge(instr: Instr, x: u8, before: Live, keys: &[u8], ram: &[u8], stack: &[u8
 pub fn execute(opcode: u8, argument: u8, s: Live, keys: &[u8], ram: &[u8], stack: &[u8]) -> Effect
     ensures { λ r. ⌜ judgedBy r ≡ judgedOf (decodeOf opcode argument) (fetched (stateBy s)) (getD (now (stack .entry)) (s .sp) 0) (now (ram .entry)) (now (keys .entry)) ⌝ }
 {
-    let x = operand_of(s, low_pair(opcode));
     let instr = isa::decode(opcode, argument);
+    let x = operand_of(s, low_pair(opcode));
     judge(instr, x, s, keys, ram, stack)
 }

@@ -10,8 +10,8 @@ use Rattle.effects.proofs.judging.execute.Tie as tie
 judge-requires : tie.Need-judge-requires
 judge-requires c κs =
     let a = c .before .before .before .before .before .before .args in
-    rw (c .decode .ensures .table)
-    (decoded-operand (stateBy (a .s)) (c .before .operand-of .result) (a .opcode) (a .argument) (c .before .operand-of .ensures ∙ rw (c .before .before .low-pair .ensures)))
+    rw (c .before .before .decode .ensures .table)
+    (decoded-operand (stateBy (a .s)) (c .operand-of .result) (a .opcode) (a .argument) (c .operand-of .ensures ∙ rw (c .before .low-pair .ensures)))
 
 pub execute-spec : {M : Type 1} → statement M
 execute-spec =
@@ -21,4 +21,4 @@ execute-spec =
     (λ c κs. search needs)
     (λ c κs. search needs)
     judge-requires
-    (λ c. c .judge .ensures ∙ rw (c .before .decode .ensures .table)))
+    (λ c. c .judge .ensures ∙ rw (c .before .before .before .decode .ensures .table)))
