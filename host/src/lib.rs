@@ -152,7 +152,7 @@ pub fn admit(opcodes: &[u8], arguments: &[u8], sheet: &[u8], list: &[u8]) -> Res
 #[inline]
 pub fn run(lent: Lent<'_>, budget: u32, start: State) -> Result<Report, RunRefusal> {
     // SAFETY: the state is a whole one.
-    unsafe { raw::run::call(lent, budget, MaybeUninit::new(start)) }.outcome(start)
+    unsafe { raw::run::call(lent, budget, MaybeUninit::new(start)) }.outcome()
 }
 
 /// The time of so many cycles at a clock in Hz, in tenths of a second, or why none is told.
