@@ -192,8 +192,7 @@ fn word(v: u8) -> u16
 }
 
 // The effect of an instruction at the state before its fetch. Ra's byte x comes from the caller, who
-// reads it before the form is known: it has the same two bits in every opcode that has an Ra. Read in
-// the arms, the registers did not stay in a CPU register from step to step.
+// reads it once for all forms: it has the same two bits in every opcode that has an Ra.
 fn judge(instr: Instr, x: u8, before: Live, keys: &[u8], ram: &[u8], stack: &[u8]) -> Effect
     requires { ⌜ IsOperand (stateBy before) x (opcodeIn (rowOf instr)) ⌝ }
     ensures { λ r. ⌜ judgedBy r ≡ judgedOf instr (fetched (stateBy before)) (getD (now (stack .entry)) (before .sp) 0) (now (ram .entry)) (now (keys .entry)) ⌝ }
