@@ -21,8 +21,8 @@ fn high_nibble(x: u8) -> u8
 
 // The form of an opcode from 16 on, g its upper six bits less four. Each of the 60 has an arm, the
 // last one too, so that the match becomes one jump without a test of the range; `_` is never
-// reached. The function and Rb, which few forms have, are cut in the
-// arms of these, so that the run's loop holds fewer values.
+// reached. The function and Rb, which few forms have, are cut in the arms of these, so that the
+// run's loop holds fewer values.
 fn form(g: u8, a: u8, i: u8) -> Instr
     requires { ⌜ g < 60 ⌝ }
     ensures { λ r. ⌜ r ≡ formOf (g / 4 + 1) (g % 4) a (i / 16) (i % 4) i ⌝ }
