@@ -13,7 +13,8 @@ use borrow.Author.Tests.{eqb-true, eq-eqb, ne-eqb, lt-ltb, ltb-true}
 use Rattle.isa.specs.declared.Class.the-variants as class
 use Rattle.model.specs.State.{plusOne}
 use Rattle.slices.proofs.Bools.{both, by-test}
-use Rattle.rules.specs.Grounds.{firstBroken, find, callee, badSuccessor}
+use Rattle.rules.specs.Grounds.{find, callee, badSuccessor}
+use Rattle.slices.specs.Checks.{firstBroken}
 use Rattle.rules.specs.Sheet.{Listing, word, described, marked, routine, depth, routines, entry, need}
 use Rattle.rules.specs.Successors.{successor}
 use Rattle.rules.proofs.AdmittedRules.{entry-of}

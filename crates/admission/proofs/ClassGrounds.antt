@@ -7,7 +7,7 @@ use mathlib.Core.Bool.{Bool, true, false, not, cond, _&&_, _||_}
 use lib.Dec.{eqb, ltb}
 use Rattle.isa.specs.declared.Class.the-variants as class
 use Rattle.isa.specs.declared.OverflowEffect.the-variants.{Keeps}
-use Rattle.rules.specs.Grounds.{firstBroken}
+use Rattle.slices.specs.Checks.{firstBroken}
 use Rattle.rules.specs.Sheet.{word, described, marked, routine, depth}
 use Rattle.rules.proofs.Tests.{and-on, and-off, or-off}
 use Rattle.admission.specs.Parts.{drawnBy, classChecks}

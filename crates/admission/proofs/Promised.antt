@@ -10,12 +10,13 @@ use lib.Dec.{eqb}
 use borrow.Author.Tests.{ltb-false}
 use Rattle.slices.proofs.Bools.{neither}
 use Rattle.rules.specs.Demand.{Bytes}
-use Rattle.rules.specs.Grounds.{check, firstBroken, badBanks, badSheet, badList, badStart, badEntry}
+use Rattle.rules.specs.Grounds.{badBanks, badSheet, badList, badStart, badEntry}
+use Rattle.slices.specs.Checks.{check, firstBroken}
 use Rattle.rules.specs.Scans.{sizesOf, scannedOf}
 use Rattle.rules.specs.Sheet.{Listing, routines, entry}
 use Rattle.rules.proofs.AdmittedRules.{one}
 use Rattle.rules.proofs.Answers.{first-demand, scan-clear, scans-agree}
-use Rattle.rules.proofs.FirstBroken.{none-broken}
+use Rattle.slices.proofs.Checks.{none-broken}
 use Rattle.rules.proofs.ThirdDemand.{demand}
 use Rattle.admission.specs.Admission.{Admission}
 use Rattle.admission.specs.Parts.{Entered, entriesOf}

@@ -5,7 +5,8 @@ use mathlib.Core.Path.{_≡_}
 use mathlib.Core.List.{List, [], _∷_}
 use mathlib.Core.Bool.{Bool, false}
 use Rattle.isa.specs.declared.Class.{Class}
-use Rattle.rules.specs.Grounds.{Check, check, badBlank, badRoutine, badEntry, rulesAt, addressChecks}
+use Rattle.rules.specs.Grounds.{badBlank, badRoutine, badEntry, rulesAt, addressChecks}
+use Rattle.slices.specs.Checks.{Check, check}
 use Rattle.rules.specs.Scans.{scanOf}
 use Rattle.rules.specs.Sheet.{Listing, listing, routines}
 

@@ -14,11 +14,12 @@ use Rattle.isa.specs.declared.Class.{Class}
 use Rattle.isa.specs.declared.Class.the-variants as class
 use Rattle.model.specs.Run.{testsIn}
 use Rattle.slices.proofs.Bools.{by-test, neither}
-use Rattle.rules.specs.FirstDemand.{NoneBroken}
-use Rattle.rules.specs.Grounds.{Check, check, firstBroken, each, find, callee, isJumpReg, takesOwn, isReturn, ofCall, badBanks, badSheet, badList, badBlank, badRoutine, badStart, badEntry, badSuccessor, anyBad, rulesAt, addressChecks, checks, admitOf}
+use Rattle.slices.specs.Checks.{NoneBroken, Check, check, firstBroken}
+use Rattle.rules.specs.Grounds.{each, find, callee, isJumpReg, takesOwn, isReturn, ofCall, badBanks, badSheet, badList, badBlank, badRoutine, badStart, badEntry, badSuccessor, anyBad, rulesAt, addressChecks, checks, admitOf}
 use Rattle.rules.specs.Sheet.{Listing, word, described, marked, routine, depth, routines, entry, need, classAt}
 use Rattle.rules.specs.Successors.{Successor, successors}
-use Rattle.rules.proofs.FirstBroken.{Numbered, numbered-append, numbered-each, none-append, none-each, none-broken}
+use Rattle.rules.proofs.CheckLists.{numbered-append, numbered-each, none-append, none-each}
+use Rattle.slices.proofs.Checks.{Numbered, none-broken}
 use Rattle.rules.proofs.Tests.{absurd-bool, and-false}
 
 -- ---- what is found passes the test

@@ -7,22 +7,20 @@ use mathlib.Core.Path.{_≡_, refl, sym, ap, ap₂, _∙_}
 use mathlib.Core.List.{List, [], _∷_, _++_}
 use mathlib.Core.Bool.{true, false}
 use Rattle.slices.proofs.Bools.{by-test}
-use Rattle.rules.specs.FirstDemand.{NoneBroken, FirstDemand}
-use Rattle.rules.specs.Grounds.{Check, check, firstBroken, each, badBanks, badSheet, badList, badBlank, badRoutine, badStart, badEntry, addressChecks, checks, admitOf}
+use Rattle.rules.specs.FirstDemand.{FirstDemand}
+use Rattle.slices.specs.Checks.{NoneBroken, Check, check, firstBroken}
+use Rattle.rules.specs.Grounds.{each, badBanks, badSheet, badList, badBlank, badRoutine, badStart, badEntry, addressChecks, checks, admitOf}
 use Rattle.rules.specs.Scans.{orElse, scanOf, sizesOf, scannedOf}
 use Rattle.rules.specs.Sheet.{Listing, routines}
 use Rattle.rules.proofs.AdmittedRules.{numbered-checks, numbered-address, one}
-use Rattle.rules.proofs.FirstBroken.{Numbered, numbered-append, numbered-each, none-each, none-broken, all-hold, named}
+use Rattle.rules.proofs.CheckLists.{numbered-append, numbered-each, none-each}
+use Rattle.slices.proofs.Checks.{Numbered, none-broken, first-violation}
 
 -- ---- 0, or the first broken rule
 
 pub first-demand : (L : Listing) → FirstDemand L (admitOf L)
 unfolding admitOf
-first-demand L =
-    record {
-      accepts = all-hold (checks L);
-      refuses = λ broken. named (checks L) (λ e. broken (none-broken (checks L) (numbered-checks L) e));
-    }
+first-demand L = first-violation (checks L) (numbered-checks L)
 
 -- ---- the scans
 

@@ -1,8 +1,8 @@
 -- What admission gives, and the third demand.
 pub mod AdmittedRules
 pub mod Answers
+pub mod CheckLists
 pub mod ClassActs
-pub mod FirstBroken
 pub mod Frames
 pub mod Live
 pub mod SafeRuns

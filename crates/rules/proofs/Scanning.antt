@@ -7,7 +7,7 @@ use native.Mathlib.Numerals.{add-one}
 use native.Mathlib.Omega.{arith}
 use mathlib.Core.Path.{_≡_, refl, sym, ap, _∙_}
 use mathlib.Core.List.{List}
-use Rattle.rules.specs.Grounds.{Check, firstBroken}
+use Rattle.slices.specs.Checks.{Check, firstBroken}
 use Rattle.rules.specs.Scans.{orElse, scanOf}
 
 -- ---- the first answer that is not 0

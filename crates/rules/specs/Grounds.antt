@@ -9,22 +9,9 @@ use lib.Dec.{eqb, leb, ltb}
 use Rattle.isa.specs.declared.Class.{Class}
 use Rattle.isa.specs.declared.Class.the-variants.{Next, Jump, Branch, JumpReg, Call, Return, Push, Pop, Swap, Halt}
 use Rattle.model.specs.Run.{testsIn}
+use Rattle.slices.specs.Checks.{Check, check, firstBroken}
 use Rattle.rules.specs.Sheet.{Listing, word, described, marked, routine, depth, routines, entry, need, classAt}
 use Rattle.rules.specs.Successors.{Successor, successors, goesOn}
-
--- a rule at a place, and whether it is broken there
-pub record Check : Type 0 where
-  pub number : ℕ
-  pub place : ℕ
-  pub broken : Bool
-
-abbrev pub check : ℕ → ℕ → Bool → Check
-check n p b = record { number = n; place = p; broken = b }
-
--- "Admission answers 0, or number + 256 × place"
-unfoldable pub firstBroken : List Check → ℕ
-firstBroken [] = 0
-firstBroken (c ∷ cs) = cond (c .broken) (c .number + 256 * c .place) (firstBroken cs)
 
 -- the checks of n places from i on, lowest first
 unfoldable pub each : (ℕ → List Check) → ℕ → ℕ → List Check

@@ -3,7 +3,8 @@
 -- Assumes nothing.
 use Prim.Native.Nat.{ℕ, zero, suc}
 use mathlib.Core.List.{List, [], _∷_}
-use Rattle.rules.specs.Grounds.{Check, check, firstBroken, badBanks, badSheet, badList, badBlank, badRoutine, badStart, badEntry, addressChecks}
+use Rattle.rules.specs.Grounds.{badBanks, badSheet, badList, badBlank, badRoutine, badStart, badEntry, addressChecks}
+use Rattle.slices.specs.Checks.{Check, check, firstBroken}
 use Rattle.rules.specs.Sheet.{Listing, routines}
 
 -- the first answer that is not 0

@@ -2,4 +2,5 @@
 pub mod Arms
 pub mod Below
 pub mod Bools
+pub mod Checks
 pub mod Lookup

@@ -6,7 +6,8 @@ use Prim.Native.Nat.{ℕ}
 use Rattle.isa.specs.Decode.{formOf, decodeOf}
 use Rattle.model.specs.Step.{instrAt}
 use Rattle.alu.specs.Alu.{aluOf, sumOf, differenceOf, settlesOf}
-use Rattle.rules.specs.Grounds.{firstBroken, each, find, callee, badBlank, badRoutine, badEntry, addressChecks, checks, admitOf}
+use Rattle.rules.specs.Grounds.{each, find, callee, badBlank, badRoutine, badEntry, addressChecks, checks, admitOf}
+use Rattle.slices.specs.Checks.{firstBroken}
 use Rattle.rules.specs.Sheet.{word, described, marked, routine, depth, routines, entry, need}
 use Rattle.slices.proofs.Lookup.{mapped}
 use Rattle.worked.specs.Listings.{Case, cases}

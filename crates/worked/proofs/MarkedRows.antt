@@ -4,7 +4,8 @@ use mathlib.Core.Path.{refl}
 use Rattle.alu.specs.Alu.{aluOf, sumOf, differenceOf, settlesOf}
 use Rattle.isa.specs.Decode.{formOf, decodeOf}
 use Rattle.model.specs.Step.{instrAt, enactedOf, stepOf}
-use Rattle.rules.specs.Grounds.{firstBroken, each, find, callee, badBlank, badRoutine, badEntry, addressChecks, checks, admitOf}
+use Rattle.rules.specs.Grounds.{each, find, callee, badBlank, badRoutine, badEntry, addressChecks, checks, admitOf}
+use Rattle.slices.specs.Checks.{firstBroken}
 use Rattle.rules.specs.Sheet.{word, described, marked, routine, depth, routines, entry, need}
 use Rattle.worked.specs.Marked.{Marked}
 

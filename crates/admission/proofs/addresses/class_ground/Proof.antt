@@ -1,7 +1,7 @@
 -- An arm a class; a plain instruction's rules do not look at the list.
 -- Assumes nothing.
 use borrow.Author.Needs.{needs}
-use Rattle.rules.specs.Grounds.{firstBroken}
+use Rattle.slices.specs.Checks.{firstBroken}
 use Rattle.rules.specs.Sheet.{word, described, marked, routine, depth}
 use Rattle.admission.proofs.ClassGrounds as tests
 use Rattle.admission.proofs.addresses.class_ground.Statement.{statement}

@@ -7,7 +7,8 @@ use mathlib.Core.List.{[], _∷_}
 use Rattle.admission.specs.Parts.{drawnBy}
 use Rattle.admission.specs.Words.{wordOf}
 use Rattle.rules.proofs.Scanning.{Scanning, scan-start, scan-hit, scan-pass, scan-end}
-use Rattle.rules.specs.Grounds.{check, firstBroken, badBlank}
+use Rattle.rules.specs.Grounds.{badBlank}
+use Rattle.slices.specs.Checks.{check, firstBroken}
 use Rattle.rules.specs.Sheet.{word, described}
 use Rattle.admission.proofs.scans.scan_blanks.Statement.{statement}
 use Rattle.admission.proofs.scans.scan_blanks.Tie as tie

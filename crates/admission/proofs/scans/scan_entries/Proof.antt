@@ -8,7 +8,8 @@ use mathlib.Core.List.{[], _∷_}
 use Rattle.admission.specs.Parts.{drawnBy}
 use Rattle.admission.specs.Words.{wordOf}
 use Rattle.rules.proofs.Scanning.{Scanning, scan-start, scan-hit, scan-pass, scan-end}
-use Rattle.rules.specs.Grounds.{check, firstBroken, badEntry}
+use Rattle.rules.specs.Grounds.{badEntry}
+use Rattle.slices.specs.Checks.{check, firstBroken}
 use Rattle.rules.specs.Sheet.{word, described, marked, routine, depth, routines, entry}
 use Rattle.admission.proofs.scans.scan_entries.Statement.{statement}
 use Rattle.admission.proofs.scans.scan_entries.Tie as tie

@@ -7,7 +7,8 @@ use mathlib.Core.List.{[], _∷_}
 use Rattle.admission.specs.Parts.{drawnBy}
 use Rattle.admission.specs.Words.{wordOf}
 use Rattle.rules.proofs.Scanning.{Scanning, scan-start, scan-hit, scan-pass, scan-end}
-use Rattle.rules.specs.Grounds.{check, firstBroken, badRoutine}
+use Rattle.rules.specs.Grounds.{badRoutine}
+use Rattle.slices.specs.Checks.{check, firstBroken}
 use Rattle.rules.specs.Sheet.{word, described, routine, routines}
 use Rattle.admission.proofs.scans.scan_names.Statement.{statement}
 use Rattle.admission.proofs.scans.scan_names.Tie as tie

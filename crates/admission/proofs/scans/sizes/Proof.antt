@@ -3,7 +3,8 @@
 use mathlib.Core.Path.{_≡_}
 use mathlib.Core.Bool.{true, false}
 use borrow.Author.Needs.{needs}
-use Rattle.rules.specs.Grounds.{firstBroken, badBanks, badSheet, badList}
+use Rattle.rules.specs.Grounds.{badBanks, badSheet, badList}
+use Rattle.slices.specs.Checks.{firstBroken}
 use Rattle.rules.specs.Sheet.{listing}
 use Rattle.admission.proofs.scans.sizes.Statement.{statement}
 use Rattle.admission.proofs.scans.sizes.Tie as tie
