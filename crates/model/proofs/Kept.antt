@@ -7,7 +7,7 @@ use lib.ListN.{length, length-set}
 use Rattle.isa.specs.Table.{cyclesOf}
 use Rattle.model.specs.Plan.{Plan}
 use Rattle.model.specs.Run.{verdictAt, runOf}
-use Rattle.model.specs.Step.{Program, Machine, nextInstr, ramAfter, stackAfter, rollAfter, enactedOf, planAt, stepOf}
+use Rattle.model.specs.Step.{Setting, Machine, nextInstr, ramAfter, stackAfter, rollAfter, appliedOf, planAt, stepOf}
 use Rattle.model.specs.declared.Write.{Write}
 use Rattle.model.specs.declared.Write.the-variants.{Nothing, Data, Stack, Roll}
 use Rattle.model.proofs.Runs.{by-verdict, none-left, run-stops, run-goes}
@@ -43,31 +43,31 @@ pub kept-trans : (m m′ m″ : Machine) → Kept m m′ → Kept m′ m″ → 
 kept-trans m m′ m″ h k =
     record { ram = k .ram ∙ h .ram; stack = k .stack ∙ h .stack; roll = k .roll ∙ h .roll }
 
-enact-keeps : (x : Plan) (n : ℕ) (m : Machine) → Kept m (enactedOf x n m)
-unfolding enactedOf
-enact-keeps x n m =
+apply-keeps : (x : Plan) (n : ℕ) (m : Machine) → Kept m (appliedOf x n m)
+unfolding appliedOf
+apply-keeps x n m =
     record {
       ram = ram-kept (x .write) (m .core .ram);
       stack = stack-kept (x .write) (m .stack);
       roll = roll-kept (x .write) (m .core .words) (m .core .roll);
     }
 
-module _ (p : Program) (keys : List ℕ) where
-  pub step-counts : (m : Machine) → stepOf p keys m .core .steps ≡ m .core .steps + 1
-  unfolding stepOf enactedOf
+module _ (x : Setting) where
+  pub step-counts : (m : Machine) → stepOf x m .core .steps ≡ m .core .steps + 1
+  unfolding stepOf appliedOf
   step-counts m = refl
 
-  pub step-pays : (m : Machine) → stepOf p keys m .core .cycles ≡ m .core .cycles + cyclesOf (nextInstr p m)
-  unfolding stepOf enactedOf
+  pub step-pays : (m : Machine) → stepOf x m .core .cycles ≡ m .core .cycles + cyclesOf (nextInstr x m)
+  unfolding stepOf appliedOf
   step-pays m = refl
 
-  pub step-keeps : (m : Machine) → Kept m (stepOf p keys m)
+  pub step-keeps : (m : Machine) → Kept m (stepOf x m)
   unfolding stepOf
-  step-keeps m = enact-keeps (planAt keys (nextInstr p m) m) (cyclesOf (nextInstr p m)) m
+  step-keeps m = apply-keeps (planAt x (nextInstr x m) m) (cyclesOf (nextInstr x m)) m
 
-  pub run-keeps : (n : ℕ) (m : Machine) → Kept m (runOf p keys n m .machine)
-  run-keeps zero m = rw (none-left p keys m) (kept-refl m)
+  pub run-keeps : (n : ℕ) (m : Machine) → Kept m (runOf x n m .machine)
+  run-keeps zero m = rw (none-left x m) (kept-refl m)
   run-keeps (suc n) m =
-      by-verdict (verdictAt p (suc n) m)
-      (λ x e. rw (run-stops p keys (suc n) m x e) (kept-refl m))
-      (λ e. rw (run-goes p keys n m e) (kept-trans m (stepOf p keys m) _ (step-keeps m) (run-keeps n (stepOf p keys m))))
+      by-verdict (verdictAt x (suc n) m)
+      (λ y e. rw (run-stops x (suc n) m y e) (kept-refl m))
+      (λ e. rw (run-goes x n m e) (kept-trans m (stepOf x m) _ (step-keeps m) (run-keeps n (stepOf x m))))

@@ -1,4 +1,6 @@
 -- Laws of steps and runs.
+pub mod Counts
 pub mod Kept
+pub mod Promises
 pub mod Runs
 pub mod Traces

@@ -1,5 +1,6 @@
 pub mod Plan
 pub mod Run
+pub mod RunPromise
 pub mod State
 pub mod Step
 pub mod Time

@@ -12,7 +12,7 @@ use Rattle.alu.specs.declared.Overflow.{Overflow}
 use Rattle.alu.specs.declared.Overflow.the-variants.{Unsettled, Settled}
 use Rattle.isa.specs.declared.Instr.{Instr}
 use Rattle.isa.specs.declared.Instr.the-variants.{Alu, AddImm, AluNone, CmpImm, MaskImm, MaskIn, MovImm, MovIn, Ack, StoreAddr, StoreReg, Push, LoadAddr, LoadReg, Pop, Swap, Jmp, JmpReg, Call, Ret, Jz, Jnz, Jc, Jnc, Jv, Jnv, Jlz, Jp, Jgz, Jleu, Jlt, Jle, LcdCmd, LcdImm, LcdReg, LcdMem, OutReg, OutMem, Hlt, Nop}
-use Rattle.model.specs.State.{plusOne, minusOne, register, withRegister, withPc, withSp, withOut, withFlags, withHalted, withPosition}
+use Rattle.model.specs.State.{spAfterPush, spAfterPop, register, withRegister, withPc, withSp, withOut, withFlags, withHalted, withPosition}
 use Rattle.model.specs.declared.State.{State}
 use Rattle.model.specs.declared.Write.{Write}
 use Rattle.model.specs.declared.Write.the-variants.{Nothing, Data, Stack, Roll}
@@ -24,9 +24,8 @@ pub record Plan : Type 0 where
 abbrev pub plan : State → Write → Plan
 plan s w = record { state = s; write = w }
 
--- nothing is written
-abbrev pub quiet : State → Plan
-quiet s = plan s Nothing
+abbrev pub noWrite : State → Plan
+noWrite s = plan s Nothing
 
 -- V as a bool. Only jv, jnv, jlt and jle ask for it, and a run stops before these where V is unsettled, so no promise rests on what stands
 -- here for an unsettled V
@@ -39,7 +38,7 @@ differ a b = not (Bool·beq a b)
 
 -- SP minus one modulo 256, then the byte is stored at SP
 abbrev pub pushed : ℕ → State → Plan
-pushed v s = plan (withSp s (minusOne (s .sp))) (Stack (minusOne (s .sp)) v)
+pushed v s = plan (withSp s (spAfterPush (s .sp))) (Stack (spAfterPush (s .sp)) v)
 
 -- s is the state after the fetch, its PC one past the instruction; top is the byte at SP, ram the data bank
 module _ (s : State) (top : ℕ) (ram keys : List ℕ) where
@@ -67,48 +66,48 @@ module _ (s : State) (top : ℕ) (ram keys : List ℕ) where
 
   -- a result of the ALU: the flags, and the register
   abbrev pub flagged : Computed → Plan
-  flagged r = quiet (withFlags s (r .flags))
+  flagged r = noWrite (withFlags s (r .flags))
 
   abbrev pub computed : ℕ → Computed → Plan
-  computed d r = quiet (withRegister (withFlags s (r .flags)) d (r .value))
+  computed d r = noWrite (withRegister (withFlags s (r .flags)) d (r .value))
 
   abbrev pub moved : ℕ → ℕ → Plan
-  moved d v = quiet (withRegister s d v)
+  moved d v = noWrite (withRegister s d v)
 
   -- 01: "Ack moves the position by one unless it is at the end"
   abbrev pub acknowledged : Plan
-  acknowledged = quiet (cond (ltb (s .position) (length keys)) (withPosition s (s .position + 1)) s)
+  acknowledged = noWrite (cond (ltb (s .position) (length keys)) (withPosition s (s .position + 1)) s)
 
   abbrev pub stored : ℕ → ℕ → Plan
   stored a v = plan s (Data a v)
 
   -- 01: "the byte at SP is read, then SP plus one modulo 256"
   abbrev pub popped : ℕ → Plan
-  popped d = quiet (withRegister (withSp s (plusOne (s .sp))) d top)
+  popped d = noWrite (withRegister (withSp s (spAfterPop (s .sp))) d top)
 
   -- 01: "swap puts Ra's old byte at SP and the old byte there in Rd; SP stays"
   abbrev pub swapped : ℕ → ℕ → Plan
   swapped d v = plan (withRegister s d top) (Stack (s .sp) v)
 
   abbrev pub jumped : Bool → ℕ → Plan
-  jumped b a = quiet (cond b (withPc s a) s)
+  jumped b a = noWrite (cond b (withPc s a) s)
 
   -- 01: "`call` stores the address after itself modulo 256"
   abbrev pub called : ℕ → Plan
   called a = pushed (s .pc) (withPc s a)
 
   abbrev pub returned : Plan
-  returned = quiet (withPc (withSp s (plusOne (s .sp))) top)
+  returned = noWrite (withPc (withSp s (spAfterPop (s .sp))) top)
 
   -- 01: "the byte for data, 256 more for a command"
   abbrev pub sent : ℕ → Plan
   sent w = plan s (Roll w)
 
   abbrev pub shown : ℕ → Plan
-  shown v = quiet (withOut s v)
+  shown v = noWrite (withOut s v)
 
   abbrev pub stopped : Plan
-  stopped = quiet (withHalted s true)
+  stopped = noWrite (withHalted s true)
 
   abbrev pub planOf : Instr → Plan
   -- ALU* Rd, Ra, Rb: Rd = ALU(Ra, Rb), flags
@@ -190,4 +189,4 @@ module _ (s : State) (top : ℕ) (ram keys : List ℕ) where
   -- hlt: halts, PC one past itself
   planOf Hlt = stopped
   -- nop: nothing
-  planOf Nop = quiet s
+  planOf Nop = noWrite s

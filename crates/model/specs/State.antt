@@ -8,12 +8,16 @@ use Rattle.alu.specs.declared.Flags.{Flags}
 use Rattle.alu.specs.declared.Overflow.the-variants.{Unsettled}
 use Rattle.model.specs.declared.State.{State}
 
--- 01: "all numbers 8 bits"; PC and SP go round
-abbrev pub plusOne : ℕ → ℕ
-plusOne n = (n + 1) % 256
+-- the address after another. 01: "PC goes up by one at fetch, from 255 to 0"
+abbrev pub nextAddress : ℕ → ℕ
+nextAddress a = (a + 1) % 256
 
-abbrev pub minusOne : ℕ → ℕ
-minusOne n = (n + 255) % 256
+-- where SP moves. 01: "push and call: SP minus one modulo 256"; "pop and ret: .. then SP plus one modulo 256"
+abbrev pub spAfterPush : ℕ → ℕ
+spAfterPush sp = (sp + 255) % 256
+
+abbrev pub spAfterPop : ℕ → ℕ
+spAfterPop sp = (sp + 1) % 256
 
 abbrev pub register : State → ℕ → ℕ
 register s r = getD (s .regs) r 0

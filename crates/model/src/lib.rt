@@ -1,5 +1,12 @@
-// The machine's types. `specs/` says what a step and a run do to them; nothing here runs.
+// The machine's types and limits. `specs/` says what a step and a run do to them; nothing here runs.
 use alu::Flags;
+
+// The steps that a run may be asked for.
+pub const MAX_BUDGET: u32 = 1000000;
+
+// The clock in Hz, and the cycles, that a running time may be asked for.
+pub const MAX_CLOCK: u32 = 1000000;
+pub const MAX_CYCLES: u32 = 8000000;
 
 // The machine's state: R0 to R3, PC, SP, the output register, the flags, whether it is halted, and
 // the position in the keys.
@@ -41,6 +48,12 @@ pub enum Refusal {
     BadBank,
     BadPosition,
     BadBudget,
+}
+
+// Whether a call passes its rules, or the first that it breaks.
+pub enum Precheck {
+    Passed,
+    Failed(Refusal),
 }
 
 // A run's answer beside the state: a refusal, or the stop, steps, cycles and roll words.

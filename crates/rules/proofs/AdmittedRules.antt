@@ -15,7 +15,7 @@ use Rattle.isa.specs.declared.Class.the-variants as class
 use Rattle.model.specs.Run.{testsIn}
 use Rattle.slices.proofs.Bools.{by-test, neither}
 use Rattle.slices.specs.Checks.{NoneBroken, Check, check, firstBroken}
-use Rattle.rules.specs.Grounds.{each, find, callee, isJumpReg, takesOwn, isReturn, ofCall, badBanks, badSheet, badList, badBlank, badRoutine, badStart, badEntry, badSuccessor, anyBad, rulesAt, addressChecks, checks, admitOf}
+use Rattle.rules.specs.Grounds.{each, find, callee, isJumpReg, isPopOrSwap, isReturn, ofCall, badBanks, badSheet, badList, badBlank, badRoutine, badStart, badEntry, badSuccessor, anyBad, rulesAt, addressChecks, checks, admitOf}
 use Rattle.rules.specs.Sheet.{Listing, word, described, marked, routine, depth, routines, entry, need, classAt}
 use Rattle.rules.specs.Successors.{Successor, successors}
 use Rattle.rules.proofs.CheckLists.{numbered-append, numbered-each, none-append, none-each}
@@ -82,7 +82,7 @@ module _ (L : Listing) where
   pub record Fits (a : ℕ) (x : Successor) : Type 0 where
     pub is-described : described L (x .to) ≡ true
     pub same-routine : routine L (x .to) ≡ routine L a
-    pub same-depth : depth L (x .to) ≡ x .deep
+    pub same-depth : depth L (x .to) ≡ x .depthThere
     pub may-mark : marked L (x .to) ≡ true → x .mark ≡ true
 
   abbrev pub FitsAll : ℕ → List Successor → Type 0
@@ -93,7 +93,7 @@ module _ (L : Listing) where
   fits-one a x e =
       let f = neither (not (described L (x .to))) _ e in
       let g = neither (not (eqb (routine L (x .to)) (routine L a))) _ (f .1) in
-      let d = neither (not (eqb (depth L (x .to)) (x .deep))) _ (g .1) in
+      let d = neither (not (eqb (depth L (x .to)) (x .depthThere))) _ (g .1) in
       record {
         is-described = not-false _ (f .0);
         same-routine = eqb-true _ _ (not-false _ (g .0));
@@ -122,10 +122,10 @@ module _ (L : Listing) where
 
   -- what 8 to 16 give of a described address of class k
   pub record Rules (a : ℕ) (k : Class) : Type 0 where
-    pub deep : depth L a ≤ need L (routine L a)
+    pub depthThere : depth L a ≤ need L (routine L a)
     pub not-jump-reg : isJumpReg k ≡ false
     pub v-marked : testsIn k ≡ true → marked L a ≡ true
-    pub own : takesOwn k ≡ true → 0 < depth L a
+    pub own : isPopOrSwap k ≡ true → 0 < depth L a
     pub returns : isReturn k ≡ true → (0 < routine L a) × (depth L a ≡ 0)
     pub calls : (t : ℕ) → k ≡ class.Call t → CallFits a t
     pub fits : FitsAll a (successors k a (depth L a) (marked L a))
@@ -133,10 +133,10 @@ module _ (L : Listing) where
   rules-of : (a : ℕ) (k : Class) → NoneBroken (rulesAt L a k (routine L a) (depth L a) (marked L a)) → Rules a k
   rules-of a k (g8, (g9, (g10, (g11, (g12, (g13, (g14, (g15, (g16, n))))))))) =
       record {
-        deep = ltb-false (need L (routine L a)) (depth L a) g8;
+        depthThere = ltb-false (need L (routine L a)) (depth L a) g8;
         not-jump-reg = g9;
         v-marked = λ q. not-false (marked L a) (and-false (testsIn k) (not (marked L a)) g10 q);
-        own = λ q. pos-of-ne-zero (eqb-false (depth L a) 0 (and-false (takesOwn k) (eqb (depth L a) 0) g11 q));
+        own = λ q. pos-of-ne-zero (eqb-false (depth L a) 0 (and-false (isPopOrSwap k) (eqb (depth L a) 0) g11 q));
         returns = λ q.
             let h = neither (eqb (routine L a) 0) (ltb 0 (depth L a)) (and-false (isReturn k) (eqb (routine L a) 0 || ltb 0 (depth L a)) g12 q) in
             (pos-of-ne-zero (eqb-false (routine L a) 0 (h .0)), le-zero (ltb-false 0 (depth L a) (h .1)));

@@ -18,7 +18,7 @@ use Rattle.isa.specs.declared.Instr.the-variants.{Alu, AddImm, AluNone, CmpImm,
 use Rattle.isa.specs.declared.OverflowEffect.{OverflowEffect}
 use Rattle.isa.specs.declared.OverflowEffect.the-variants.{Keeps, Settles, Unsettles}
 use Rattle.model.specs.Plan.{Plan, valueOf, differ, planOf}
-use Rattle.model.specs.State.{plusOne, minusOne, register, withPc, withPosition}
+use Rattle.model.specs.State.{nextAddress, spAfterPush, spAfterPop, register, withPc, withPosition}
 use Rattle.model.specs.Step.{fetched, stackAfter}
 use Rattle.model.specs.declared.State.{State}
 use Rattle.slices.proofs.Bools.{by-test}
@@ -36,15 +36,15 @@ pub record Moves (s′ : State) (pc sp : ℕ) : Type 0 where
 
 -- what a step of a class does to PC, SP and V; top is the byte at SP
 abbrev pub Acts : Class → ℕ → State → State → Type 0
-Acts (class.Next e) top s s′ = Moves s′ (plusOne (s .pc)) (s .sp) × VActs e (s .flags .v) (s′ .flags .v)
+Acts (class.Next e) top s s′ = Moves s′ (nextAddress (s .pc)) (s .sp) × VActs e (s .flags .v) (s′ .flags .v)
 Acts (class.Jump a) top s s′ = Moves s′ a (s .sp) × (s′ .flags .v ≡ s .flags .v)
-Acts (class.Branch a n) top s s′ = (Moves s′ a (s .sp) ⊎ Moves s′ (plusOne (s .pc)) (s .sp)) × (s′ .flags .v ≡ s .flags .v)
+Acts (class.Branch a n) top s s′ = (Moves s′ a (s .sp) ⊎ Moves s′ (nextAddress (s .pc)) (s .sp)) × (s′ .flags .v ≡ s .flags .v)
 Acts class.JumpReg top s s′ = Unit {0}
-Acts (class.Call a) top s s′ = Moves s′ a (minusOne (s .sp)) × (s′ .flags .v ≡ s .flags .v)
-Acts class.Return top s s′ = Moves s′ top (plusOne (s .sp)) × (s′ .flags .v ≡ s .flags .v)
-Acts (class.Push r) top s s′ = Moves s′ (plusOne (s .pc)) (minusOne (s .sp)) × (s′ .flags .v ≡ s .flags .v)
-Acts class.Pop top s s′ = Moves s′ (plusOne (s .pc)) (plusOne (s .sp)) × (s′ .flags .v ≡ s .flags .v)
-Acts (class.Swap r) top s s′ = Moves s′ (plusOne (s .pc)) (s .sp) × (s′ .flags .v ≡ s .flags .v)
+Acts (class.Call a) top s s′ = Moves s′ a (spAfterPush (s .sp)) × (s′ .flags .v ≡ s .flags .v)
+Acts class.Return top s s′ = Moves s′ top (spAfterPop (s .sp)) × (s′ .flags .v ≡ s .flags .v)
+Acts (class.Push r) top s s′ = Moves s′ (nextAddress (s .pc)) (spAfterPush (s .sp)) × (s′ .flags .v ≡ s .flags .v)
+Acts class.Pop top s s′ = Moves s′ (nextAddress (s .pc)) (spAfterPop (s .sp)) × (s′ .flags .v ≡ s .flags .v)
+Acts (class.Swap r) top s s′ = Moves s′ (nextAddress (s .pc)) (s .sp) × (s′ .flags .v ≡ s .flags .v)
 Acts class.Halt top s s′ = (s′ .halted ≡ true) × (s′ .sp ≡ s .sp)
 
 moves : {s′ : State} {pc sp : ℕ} → s′ .pc ≡ pc → s′ .sp ≡ sp → Moves s′ pc sp
@@ -55,13 +55,13 @@ alu-acts : (f x y : ℕ) (c : Bool) (v : Overflow) → VActs (effectOf f) v (alu
 alu-acts f x y c v = by-test (settlesOf f) (λ q. rw q (settles-alike f x y c ∙ q)) (λ q. rw q tt)
 
 fork-acts : (s : State) (t : Bool) (a : ℕ)
-    → (Moves (cond t (withPc (fetched s) a) (fetched s)) a (s .sp) ⊎ Moves (cond t (withPc (fetched s) a) (fetched s)) (plusOne (s .pc)) (s .sp))
+    → (Moves (cond t (withPc (fetched s) a) (fetched s)) a (s .sp) ⊎ Moves (cond t (withPc (fetched s) a) (fetched s)) (nextAddress (s .pc)) (s .sp))
     × (cond t (withPc (fetched s) a) (fetched s) .flags .v ≡ s .flags .v)
 fork-acts s true a = (inl (moves refl refl), refl)
 fork-acts s false a = (inr (moves refl refl), refl)
 
 ack-acts : (s : State) (t : Bool)
-    → Moves (cond t (withPosition (fetched s) (s .position + 1)) (fetched s)) (plusOne (s .pc)) (s .sp)
+    → Moves (cond t (withPosition (fetched s) (s .position + 1)) (fetched s)) (nextAddress (s .pc)) (s .sp)
     × (cond t (withPosition (fetched s) (s .position + 1)) (fetched s) .flags .v ≡ s .flags .v)
 ack-acts s true = (moves refl refl, refl)
 ack-acts s false = (moves refl refl, refl)

@@ -8,7 +8,7 @@ use mathlib.Core.Bool.{true, false}
 use lib.ListN.{length, getD, set}
 use lib.Seq.{getD-set-same, getD-set-other}
 use Rattle.rules.specs.Sheet.{Listing, described, marked, routine, depth, need}
-use Rattle.rules.specs.Tally.{Entry, byte, back}
+use Rattle.rules.specs.Tally.{Entry, byte, returnTo}
 
 module _ (L : Listing) where
   -- The entries are those of the routine r at the depth d above its callers' entries: d bytes of its own, then a return address a
@@ -17,7 +17,7 @@ module _ (L : Listing) where
     bottom : Frames 0 0 []
     pushed : {r d : ℕ} {row : List Entry} (b : ℕ) → Frames r d row → Frames r (suc d) (byte b r ∷ row)
     called : {row : List Entry} (a q : ℕ) → described L a ≡ true → marked L a ≡ false → depth L a + 1 + need L q ≤ need L (routine L a)
-        → Frames (routine L a) (depth L a) row → Frames q 0 (back a ∷ row)
+        → Frames (routine L a) (depth L a) row → Frames q 0 (returnTo a ∷ row)
 
   -- the entries and what the routine may still add are at most routine 0's need
   pub frames-bound : {r d : ℕ} {row : List Entry} → Frames r d row → length row + need L r ≤ need L 0 + d
@@ -30,7 +30,7 @@ module _ (L : Listing) where
     last-own : {row : List Entry} (b : ℕ) → Frames r d row → LastOwn r d (byte b r ∷ row)
 
   pub data LastReturn : List Entry → Type 0 where
-    last-return : {row : List Entry} (a : ℕ) → described L a ≡ true → marked L a ≡ false → Frames (routine L a) (depth L a) row → LastReturn (back a ∷ row)
+    last-return : {row : List Entry} (a : ℕ) → described L a ≡ true → marked L a ≡ false → Frames (routine L a) (depth L a) row → LastReturn (returnTo a ∷ row)
 
   pub own-last : {r d : ℕ} {row : List Entry} → Frames r d row → 0 < d → LastOwn r (d - 1) row
   own-last bottom h = absurd (omega arith)
@@ -45,7 +45,7 @@ module _ (L : Listing) where
 -- the byte that the stack holds for an entry
 abbrev pub byteOf : Entry → ℕ
 byteOf (byte b r) = b
-byteOf (back a) = a
+byteOf (returnTo a) = a
 
 -- the stack holds the entries, the last of them at 255 less their number
 abbrev pub Held : List ℕ → List Entry → Type 0

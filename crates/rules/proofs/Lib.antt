@@ -4,9 +4,10 @@ pub mod Answers
 pub mod CheckLists
 pub mod ClassActs
 pub mod Frames
-pub mod Live
+pub mod Invariant
+pub mod ListedCalls
+pub mod Noninterference
 pub mod SafeRuns
 pub mod Scanning
 pub mod Tests
 pub mod ThirdDemand
-pub mod Twins

@@ -1,4 +1,4 @@
--- Runs and lists of runs of an admitted listing: every step is as the demand says, no stop is `unsettled`, and what is left is good again.
+-- Runs and lists of runs of an admitted listing: every step is as the demand says, no stop is `unsettled`, and what is left is safe again.
 -- Assumes nothing.
 use Prim.Native.Nat.{ℕ, zero, suc, _+_}
 use native.Mathlib.Omega.{arith}
@@ -10,9 +10,9 @@ use lib.ListN.{length}
 use Rattle.alu.specs.Alu.{isSettled}
 use Rattle.isa.specs.Facts.{writesRoll}
 use Rattle.isa.specs.declared.Instr.{Instr}
-use Rattle.model.specs.Run.{testsIn, testsOverflow, verdictOf, verdictAt, Ended, ended, runOf, traceOf, Outcome, outcome, machineOf, reported, badBank, badPosition, mostSteps, refusedOf, callOf}
+use Rattle.model.specs.Run.{testsIn, testsOverflow, verdictOf, verdictAt, Ended, ended, runOf, traceOf, Outcome, Call, reported, badBanks, badPosition, badBudget, refusalOf, refusedOf, callOf}
 use Rattle.model.specs.State.{startWith}
-use Rattle.model.specs.Step.{Program, Core, Machine, nextInstr, stepOf}
+use Rattle.model.specs.Step.{Program, Setting, Core, Machine, machineAt, nextInstr, stepOf}
 use Rattle.model.specs.declared.Answer.the-variants.{Refused}
 use Rattle.model.specs.declared.Refusal.{Refusal}
 use Rattle.model.specs.declared.Refusal.the-variants.{BadBank, BadPosition, BadBudget}
@@ -22,15 +22,17 @@ use Rattle.model.specs.declared.Stop.the-variants.{Halted, Spent, Unsettled, Fu
 use Rattle.model.specs.declared.Verdict.{Verdict}
 use Rattle.model.specs.declared.Verdict.the-variants.{Go, Stopped}
 use Rattle.slices.proofs.Bools.{by-test}
+use Rattle.model.proofs.Promises.{by-precheck}
 use Rattle.model.proofs.Runs.{by-verdict, none-left, run-stops, run-goes}
 use Rattle.model.proofs.Traces.{trace-stops, trace-goes, run-steps}
 use Rattle.rules.specs.Demand.{Tallied, NotUnsettled, NoneUnsettled, Leads, TraceIs, Bytes}
-use Rattle.rules.specs.RunLists.{World, Begin, goOn, anew, Lends, these, others, Call, begun, outcomeBy, outcomeOf, leftBy, Event, starts, steps, stepsIn, beginEvents, callMachine, eventsBy, callEvents, outcomes, events}
+use Rattle.rules.specs.RunLists.{Snapshot, Start, resume, restart, ListedRun, callIn, outcomeOf, leftBy, Event, starts, steps, stepsIn, startEvents, runMachine, eventsBy, runEvents, outcomes, events}
 use Rattle.rules.specs.Sheet.{Listing, described, marked, routine, depth, need, entry, classAt}
 use Rattle.rules.specs.Tally.{Entry, tally}
 use Rattle.rules.proofs.AdmittedRules.{Admitted}
 use Rattle.rules.proofs.Frames.{bottom}
-use Rattle.rules.proofs.Live.{Live, Good, live, done, step-good, lands-entry}
+use Rattle.rules.proofs.ListedCalls.{ranFrom, refused-call, passed-call}
+use Rattle.rules.proofs.Invariant.{settingOf, Running, Safe, running, done, step-safe, lands-entry}
 
 -- ---- verdicts
 
@@ -58,16 +60,16 @@ last-settled false e = let z : _≡_ {A = ℕ} 0 1 = cc in omega arith
 
 -- ---- the steps of a run lead to what it leaves
 
-leads : (p : Program) (keys : List ℕ) (n : ℕ) (m : Machine) → Leads p keys m (traceOf p keys n m) (runOf p keys n m .machine)
+leads : (x : Setting) (n : ℕ) (m : Machine) → Leads x m (traceOf x n m) (runOf x n m .machine)
 unfolding traceOf
-leads p keys zero m = rw (none-left p keys m)
-leads p keys (suc n) m =
-    by-verdict (verdictAt p (suc n) m)
-    (λ x e. rw (run-stops p keys (suc n) m x e, trace-stops p keys n m x e))
-    (λ e. rw (run-goes p keys n m e, trace-goes p keys n m e) (refl, leads p keys n (stepOf p keys m)))
+leads x zero m = rw (none-left x m)
+leads x (suc n) m =
+    by-verdict (verdictAt x (suc n) m)
+    (λ y e. rw (run-stops x (suc n) m y e, trace-stops x n m y e))
+    (λ e. rw (run-goes x n m e, trace-goes x n m e) (refl, leads x n (stepOf x m)))
 
-pub trace-is : (p : Program) (keys : List ℕ) (n : ℕ) (m : Machine) → TraceIs p keys n m
-trace-is p keys n m = record { leads = leads p keys n m; counted = run-steps p keys n m }
+pub trace-is : (x : Setting) (n : ℕ) (m : Machine) → TraceIs x n m
+trace-is x n m = record { leads = leads x n m; counted = run-steps x n m }
 
 -- ---- rows
 
@@ -75,62 +77,63 @@ trace-is p keys n m = record { leads = leads p keys n m; counted = run-steps p k
 abbrev pub rowAfter : Listing → List Entry → List Event → List Entry
 rowAfter L row [] = row
 rowAfter L row (starts ∷ es) = rowAfter L [] es
-rowAfter L row (steps keys m ∷ es) = rowAfter L (tally L m row) es
+rowAfter L row (steps x m ∷ es) = rowAfter L (tally L m row) es
 
 tallied-append : (L : Listing) (row : List Entry) (es fs : List Event) → Tallied L row es → Tallied L (rowAfter L row es) fs → Tallied L row (es ++ fs)
 tallied-append L row [] fs p q = q
 tallied-append L row (starts ∷ es) fs p q = tallied-append L [] es fs p q
-tallied-append L row (steps keys m ∷ es) fs p q = (p .0, tallied-append L (tally L m row) es fs (p .1) q)
+tallied-append L row (steps x m ∷ es) fs p q = (p .0, tallied-append L (tally L m row) es fs (p .1) q)
 
 pub rowAfter-append : (L : Listing) (row : List Entry) (es fs : List Event) → rowAfter L row (es ++ fs) ≡ rowAfter L (rowAfter L row es) fs
 rowAfter-append L row [] fs = refl
 rowAfter-append L row (starts ∷ es) fs = rowAfter-append L [] es fs
-rowAfter-append L row (steps keys m ∷ es) fs = rowAfter-append L (tally L m row) es fs
+rowAfter-append L row (steps x m ∷ es) fs = rowAfter-append L (tally L m row) es fs
 
 -- what lies between runs, as a machine
-abbrev pub rest : World → Machine
-rest w = machineOf (w .state) (w .ram) (w .stack) []
+abbrev pub rest : Snapshot → Machine
+rest w = machineAt (w .state) (w .ram) (w .stack) [] 0 0 0
 
 module _ (L : Listing) (A : Admitted L) (bytes : Bytes (L .list)) where
   -- ---- a run
 
-  pub verdict-settled : {row : List Entry} {m : Machine} → Good L row m → (n : ℕ) → verdictAt (L .program) n m ≡ Stopped Unsettled → ⊥
-  verdict-settled {m = m} (live l) n e =
-      never-unsettled (nextInstr (L .program) m) n (m .core)
+  pub verdict-settled : {row : List Entry} {m : Machine} → Safe L row m → (keys : List ℕ) (n : ℕ) → verdictAt (settingOf L keys) n m ≡ Stopped Unsettled → ⊥
+  verdict-settled {m = m} (running l) keys n e =
+      never-unsettled (nextInstr (settingOf L keys) m) n (m .core)
       (by-test (testsIn (classAt L (m .core .state .pc))) (λ q. rw (q, l .v-settled (A .rules _ (l .at-described) .v-marked q))) (λ q. rw q)) e
-  verdict-settled {m = m} (done h k) n e = let z : _≡_ {A = ℕ} 0 1 = cc (halted-stops (nextInstr (L .program) m) n (m .core) h) in omega arith
+  verdict-settled {m = m} (done h k) keys n e = let z : _≡_ {A = ℕ} 0 1 = cc (halted-stops (nextInstr (settingOf L keys) m) n (m .core) h) in omega arith
 
-  -- a machine that goes on is live
-  pub goes-live : {row : List Entry} {m : Machine} → Good L row m → (n : ℕ) → verdictAt (L .program) n m ≡ Go → Live L row m
-  goes-live (live l) n e = l
-  goes-live {m = m} (done h k) n e = absurd (let z : _≡_ {A = ℕ} 0 1 = cc (halted-stops (nextInstr (L .program) m) n (m .core) h) in omega arith)
+  -- a machine that goes on is running
+  pub goes-running : {row : List Entry} {m : Machine} → Safe L row m → (keys : List ℕ) (n : ℕ) → verdictAt (settingOf L keys) n m ≡ Go → Running L row m
+  goes-running (running l) keys n e = l
+  goes-running {m = m} (done h k) keys n e = absurd (let z : _≡_ {A = ℕ} 0 1 = cc (halted-stops (nextInstr (settingOf L keys) m) n (m .core) h) in omega arith)
 
-  pub record RunGood (row : List Entry) (e : Ended) (es : List Event) : Type 0 where
+  pub record RunSafe (row : List Entry) (e : Ended) (es : List Event) : Type 0 where
     pub tallied : Tallied L row es
     pub not-unsettled : e .stop ≡ Unsettled → ⊥
-    pub good : Good L (rowAfter L row es) (e .machine)
+    pub safe : Safe L (rowAfter L row es) (e .machine)
 
-  run-ends : {row : List Entry} {m : Machine} (x : Stop) → Good L row m → (x ≡ Unsettled → ⊥) → RunGood row (ended x m) []
-  run-ends x g h = record { tallied = tt; not-unsettled = h; good = g }
+  run-ends : {row : List Entry} {m : Machine} (y : Stop) → Safe L row m → (y ≡ Unsettled → ⊥) → RunSafe row (ended y m) []
+  run-ends y g h = record { tallied = tt; not-unsettled = h; safe = g }
 
-  pub run-good : (keys : List ℕ) (n : ℕ) {row : List Entry} {m : Machine} → Good L row m
-      → RunGood row (runOf (L .program) keys n m) (stepsIn keys (traceOf (L .program) keys n m))
+  pub run-safe : (keys : List ℕ) (n : ℕ) {row : List Entry} {m : Machine} → Safe L row m
+      → RunSafe row (runOf (settingOf L keys) n m) (stepsIn (settingOf L keys) (traceOf (settingOf L keys) n m))
   unfolding traceOf
-  run-good keys zero {row} {m} g = rw (none-left (L .program) keys m) (run-ends _ g (last-settled (m .core .state .halted)))
-  run-good keys (suc n) {row} {m} g =
-      by-verdict (verdictAt (L .program) (suc n) m)
-      (λ x e. rw (run-stops (L .program) keys (suc n) m x e, trace-stops (L .program) keys n m x e) (run-ends x g (λ q. verdict-settled g (suc n) (cc))))
+  run-safe keys zero {row} {m} g = rw (none-left (settingOf L keys) m) (run-ends _ g (last-settled (m .core .state .halted)))
+  run-safe keys (suc n) {row} {m} g =
+      let x = settingOf L keys in
+      by-verdict (verdictAt x (suc n) m)
+      (λ y e. rw (run-stops x (suc n) m y e, trace-stops x n m y e) (run-ends y g (λ q. verdict-settled g keys (suc n) (cc))))
       (λ e.
-      let h = step-good L A bytes keys (goes-live g (suc n) e) in
-      let i = run-good keys n (h .1) in
-      rw (run-goes (L .program) keys n m e, trace-goes (L .program) keys n m e)
-      (record { tallied = (h .0, i .tallied); not-unsettled = i .not-unsettled; good = i .good }))
+      let h = step-safe L A bytes keys (goes-running g keys (suc n) e) in
+      let i = run-safe keys n (h .1) in
+      rw (run-goes x n m e, trace-goes x n m e)
+      (record { tallied = (h .0, i .tallied); not-unsettled = i .not-unsettled; safe = i .safe }))
 
   -- ---- a list of runs
 
-  pub good-same : {row : List Entry} {m : Machine} (m′ : Machine) → m′ .core .state ≡ m .core .state → m′ .stack ≡ m .stack → Good L row m → Good L row m′
-  good-same m′ p q (live l) =
-      live
+  pub safe-same : {row : List Entry} {m : Machine} (m′ : Machine) → m′ .core .state ≡ m .core .state → m′ .stack ≡ m .stack → Safe L row m → Safe L row m′
+  safe-same m′ p q (running l) =
+      running
       (record {
         at-described = rw p (l .at-described);
         frames = rw p (l .frames);
@@ -139,62 +142,52 @@ module _ (L : Listing) (A : Admitted L) (bytes : Bytes (L .list)) where
         v-settled = rw p (l .v-settled);
         stack-long = rw q (l .stack-long);
       })
-  good-same m′ p q (done h k) = done (rw p h) (rw q k)
+  safe-same m′ p q (done h k) = done (rw p h) (rw q k)
 
-  pub good-long : {row : List Entry} {m : Machine} → Good L row m → length (m .stack) ≡ 256
-  good-long (live l) = l .stack-long
-  good-long (done h k) = k
+  pub safe-long : {row : List Entry} {m : Machine} → Safe L row m → length (m .stack) ≡ 256
+  safe-long (running l) = l .stack-long
+  safe-long (done h k) = k
 
-  pub start-good : (m : Machine) (regs : List ℕ) (z c s : Bool) → m .core .state ≡ startWith regs z c s → length (m .stack) ≡ 256 → Good L [] m
-  start-good m regs z c s e l =
-      live (lands-entry L A bytes 0 (A .entries 0 (A .some-routine)) (rw e (sym (A .entry-zero))) bottom tt (rw e (omega arith)) l)
+  pub begin-safe : (m : Machine) (regs : List ℕ) (z c s : Bool) → m .core .state ≡ startWith regs z c s → length (m .stack) ≡ 256 → Safe L [] m
+  begin-safe m regs z c s e l =
+      running (lands-entry L A bytes 0 (A .entries 0 (A .some-routine)) (rw e (sym (A .entry-zero))) bottom tt (rw e (omega arith)) l)
 
-  pub begin-good : (c : Call) (w : World) (row : List Entry) (b : Begin) → c .begin ≡ b → Good L row (rest w)
-      → Tallied L row (beginEvents b) × Good L (rowAfter L row (beginEvents b)) (callMachine c w)
-  begin-good c w row goOn e g = (tt, good-same (callMachine c w) (rw e) refl g)
-  begin-good c w row (anew regs z x s) e g = (tt, start-good (callMachine c w) regs z x s (rw e) (good-long g))
+  pub start-safe : (r : ListedRun) (w : Snapshot) (row : List Entry) (b : Start) → r .start ≡ b → Safe L row (rest w)
+      → Tallied L row (startEvents b) × Safe L (rowAfter L row (startEvents b)) (runMachine r w)
+  start-safe r w row resume e g = (tt, safe-same (runMachine r w) (rw e) refl g)
+  start-safe r w row (restart regs z c s) e g = (tt, begin-safe (runMachine r w) regs z c s (rw e) (safe-long g))
 
-  pub record CallGood (row : List Entry) (c : Call) (w : World) (o : Outcome) : Type 0 where
-    pub tallied : Tallied L row (eventsBy (o .answer) (L .program) c w)
+  pub record CallSafe (row : List Entry) (r : ListedRun) (w : Snapshot) (o : Outcome) : Type 0 where
+    pub tallied : Tallied L row (eventsBy (o .answer) (L .program) r w)
     pub not-unsettled : NotUnsettled (o .answer)
-    pub good : Good L (rowAfter L row (eventsBy (o .answer) (L .program) c w)) (rest (leftBy o w))
+    pub safe : Safe L (rowAfter L row (eventsBy (o .answer) (L .program) r w)) (rest (leftBy o w))
 
-  ran-good : (row : List Entry) (c : Call) (w : World) → Good L row (rest w)
-      → CallGood row c w (reported (runOf (L .program) (c .keys) (c .budget) (callMachine c w)))
-  ran-good row c w g =
-      let h = begin-good c w row (c .begin) refl g in
-      let i = run-good (c .keys) (c .budget) (h .1) in
+  ran-safe : (row : List Entry) (r : ListedRun) (w : Snapshot) → Safe L row (rest w) → CallSafe row r w (ranFrom (L .program) r w)
+  ran-safe row r w g =
+      let h = start-safe r w row (r .start) refl g in
+      let i = run-safe (r .keys) (r .budget) (h .1) in
       record {
-        tallied = tallied-append L row (beginEvents (c .begin)) _ (h .0) (i .tallied);
+        tallied = tallied-append L row (startEvents (r .start)) _ (h .0) (i .tallied);
         not-unsettled = i .not-unsettled;
-        good = rw rowAfter-append (good-same _ refl refl (i .good));
+        safe = rw rowAfter-append (safe-same _ refl refl (i .safe));
       }
 
   -- a call that is refused leaves all as it was
-  refused-good : (row : List Entry) (c : Call) (w : World) (x : Refusal) (s : State) (ram stack roll : List ℕ) → Good L row (rest w)
-      → CallGood row c w (refusedOf x s ram stack roll)
-  refused-good row c w x s ram stack roll g = record { tallied = tt; not-unsettled = tt; good = g }
+  refused-safe : (row : List Entry) (r : ListedRun) (w : Snapshot) (y : Refusal) (c : Call) → Safe L row (rest w) → CallSafe row r w (refusedOf y c)
+  refused-safe row r w y c g = record { tallied = tt; not-unsettled = tt; safe = g }
 
-  call-good : (row : List Entry) (c : Call) (w : World) (l : Lends) → Good L row (rest w) → CallGood row c w (outcomeBy l (L .program) c w)
-  unfolding callOf
-  call-good row c w these g =
-      by-test (badBank (L .program .opcodes) || badBank (L .program .arguments) || badBank (w .ram) || badBank (w .stack))
-      (λ q. rw (q, callOf) (refused-good row c w BadBank _ _ _ _ g))
-      (λ q.
-      by-test (badPosition (begun (c .begin) (w .state)) (c .keys))
-      (λ r. rw (q, r, callOf) (refused-good row c w BadPosition _ _ _ _ g))
-      (λ r.
-      by-test (ltb mostSteps (c .budget))
-      (λ t. rw (q, r, t, callOf) (refused-good row c w BadBudget _ _ _ _ g))
-      (λ t. rw (q, r, t, callOf) (ran-good row c w g))))
-  call-good row c w (others ops args ram stack q) g = rw (q, callOf) (refused-good row c w BadBank _ _ _ _ g)
+  call-safe : (row : List Entry) (r : ListedRun) (w : Snapshot) → Safe L row (rest w) → CallSafe row r w (outcomeOf (L .program) r w)
+  call-safe row r w g =
+      by-precheck (refusalOf (callIn (L .program) r w))
+      (λ y e. rw (refused-call (L .program) r w y e) (refused-safe row r w y (callIn (L .program) r w) g))
+      (λ e. rw (passed-call (L .program) r w e) (ran-safe row r w g))
 
-  pub list-good : (cs : List Call) (row : List Entry) (w : World) → Good L row (rest w)
-      → Tallied L row (events (L .program) cs w) × NoneUnsettled (outcomes (L .program) cs w)
-  unfolding events outcomes outcomeOf
-  list-good [] row w g = (tt, tt)
-  list-good (c ∷ cs) row w g =
-      let o = outcomeOf (L .program) c w in
-      let h = call-good row c w (c .lends) g in
-      let i = list-good cs (rowAfter L row (callEvents (L .program) c w)) (leftBy o w) (h .good) in
-      (tallied-append L row (callEvents (L .program) c w) _ (h .tallied) (i .0), (h .not-unsettled, i .1))
+  pub list-safe : (rs : List ListedRun) (row : List Entry) (w : Snapshot) → Safe L row (rest w)
+      → Tallied L row (events (L .program) rs w) × NoneUnsettled (outcomes (L .program) rs w)
+  unfolding events outcomes
+  list-safe [] row w g = (tt, tt)
+  list-safe (r ∷ rs) row w g =
+      let o = outcomeOf (L .program) r w in
+      let h = call-safe row r w g in
+      let i = list-safe rs (rowAfter L row (runEvents (L .program) r w)) (leftBy o w) (h .safe) in
+      (tallied-append L row (runEvents (L .program) r w) _ (h .tallied) (i .0), (h .not-unsettled, i .1))

@@ -10,6 +10,7 @@ use Rattle.isa.specs.declared.Class.{Class}
 use Rattle.isa.specs.declared.Class.the-variants.{Next, Jump, Branch, JumpReg, Call, Return, Push, Pop, Swap, Halt}
 use Rattle.model.specs.Run.{testsIn}
 use Rattle.slices.specs.Checks.{Check, check, firstBroken}
+use Rattle.slices.specs.Sizes.{bankSize}
 use Rattle.rules.specs.Sheet.{Listing, word, described, marked, routine, depth, routines, entry, need, classAt}
 use Rattle.rules.specs.Successors.{Successor, successors, goesOn}
 
@@ -42,17 +43,17 @@ isJumpReg (Swap r) = false
 isJumpReg Halt = false
 
 -- pop or swap
-abbrev pub takesOwn : Class → Bool
-takesOwn (Next e) = false
-takesOwn (Jump t) = false
-takesOwn (Branch t n) = false
-takesOwn JumpReg = false
-takesOwn (Call t) = false
-takesOwn Return = false
-takesOwn (Push r) = false
-takesOwn Pop = true
-takesOwn (Swap r) = true
-takesOwn Halt = false
+abbrev pub isPopOrSwap : Class → Bool
+isPopOrSwap (Next e) = false
+isPopOrSwap (Jump t) = false
+isPopOrSwap (Branch t n) = false
+isPopOrSwap JumpReg = false
+isPopOrSwap (Call t) = false
+isPopOrSwap Return = false
+isPopOrSwap (Push r) = false
+isPopOrSwap Pop = true
+isPopOrSwap (Swap r) = true
+isPopOrSwap Halt = false
 
 abbrev pub isReturn : Class → Bool
 isReturn (Next e) = false
@@ -83,15 +84,21 @@ ofCall f Halt = false
 
 -- 1: "The opcode or argument bank isn't 256 bytes"
 abbrev pub badBanks : Listing → Bool
-badBanks L = not (eqb (length (L .program .opcodes)) 256 && eqb (length (L .program .arguments)) 256)
+badBanks L = not (eqb (length (L .program .opcodes)) bankSize && eqb (length (L .program .arguments)) bankSize)
 
 -- 2: "The sheet isn't 512 bytes"
+abbrev pub sheetSize : ℕ
+sheetSize = 512
+
 abbrev pub badSheet : Listing → Bool
-badSheet L = not (eqb (length (L .sheet)) 512)
+badSheet L = not (eqb (length (L .sheet)) sheetSize)
 
 -- 3: "The routine list's length is odd, 0 or over 128 bytes"
+abbrev pub maxListSize : ℕ
+maxListSize = 128
+
 abbrev pub badList : Listing → Bool
-badList L = eqb (length (L .list) % 2) 1 || (eqb (length (L .list)) 0 || ltb 128 (length (L .list)))
+badList L = eqb (length (L .list) % 2) 1 || (eqb (length (L .list)) 0 || ltb maxListSize (length (L .list)))
 
 -- 4: "A word without bit 15 isn't 0"
 unfoldable pub badBlank : Listing → ℕ → Bool
@@ -117,7 +124,7 @@ abbrev pub badSuccessor : Listing → (r : ℕ) → Successor → Bool
 badSuccessor L r x =
     not (described L (x .to))
     || (not (eqb (routine L (x .to)) r)
-    || (not (eqb (depth L (x .to)) (x .deep)) || (marked L (x .to) && not (x .mark))))
+    || (not (eqb (depth L (x .to)) (x .depthThere)) || (marked L (x .to) && not (x .mark))))
 
 abbrev pub anyBad : Listing → (r : ℕ) → List Successor → Bool
 anyBad L r [] = false
@@ -133,7 +140,7 @@ rulesAt L a k r d v =
     -- 10: "It is jv, jnv, jlt or jle and V isn't marked"
     ∷ check 10 a (testsIn k && not v)
     -- 11: "It is pop or swap at depth 0"
-    ∷ check 11 a (takesOwn k && eqb d 0)
+    ∷ check 11 a (isPopOrSwap k && eqb d 0)
     -- 12: "It is ret in routine 0 or at a depth above 0"
     ∷ check 12 a (isReturn k && (eqb r 0 || ltb 0 d))
     -- 13: "It is address 255 and its next word is a successor"
@@ -153,11 +160,11 @@ addressChecks L a = cond (described L a) (rulesAt L a (classAt L a) (routine L a
 unfoldable pub checks : Listing → List Check
 checks L =
     (check 1 0 (badBanks L) ∷ check 2 0 (badSheet L) ∷ check 3 0 (badList L) ∷ [])
-    ++ (each (λ a. check 4 a (badBlank L a) ∷ []) 0 256
-    ++ (each (λ a. check 5 a (badRoutine L a) ∷ []) 0 256
+    ++ (each (λ a. check 4 a (badBlank L a) ∷ []) 0 bankSize
+    ++ (each (λ a. check 5 a (badRoutine L a) ∷ []) 0 bankSize
     ++ ((check 6 0 (badStart L) ∷ [])
     ++ (each (λ r. check 7 r (badEntry L r) ∷ []) 0 (routines L)
-    ++ each (addressChecks L) 0 256))))
+    ++ each (addressChecks L) 0 bankSize))))
 
 unfoldable pub admitOf : Listing → ℕ
 admitOf L = firstBroken (checks L)

@@ -1,92 +1,109 @@
--- 01, 'Lists of runs': calls of a run one after another, what each answers and leaves, and the events that a tally is fed.
+-- 01, 'Lists of runs': runs one after another, what each answers and leaves, and the events that a tally is fed.
 -- Assumes nothing.
 use Prim.Native.Nat.{ℕ}
 use mathlib.Core.Path.{_≡_}
 use mathlib.Core.List.{List, [], _∷_, _++_}
-use mathlib.Core.Bool.{Bool, true, _||_}
-use Rattle.model.specs.Run.{Outcome, badBank, machineOf, callOf, traceOf}
+use mathlib.Core.Bool.{Bool, true}
+use Rattle.model.specs.Run.{Outcome, Call, callOf, traceOf}
 use Rattle.model.specs.State.{startWith}
-use Rattle.model.specs.Step.{Program, Machine}
+use Rattle.model.specs.Step.{Program, Setting, setting, Machine, machineAt}
 use Rattle.model.specs.declared.Answer.{Answer}
 use Rattle.model.specs.declared.Answer.the-variants.{Refused, Ran}
 use Rattle.model.specs.declared.State.{State}
+use Rattle.slices.specs.Sizes.{badBank}
 
 -- what lies between runs: the state and the two banks that a run writes
-pub record World : Type 0 where
+pub record Snapshot : Type 0 where
   pub state : State
   pub ram : List ℕ
   pub stack : List ℕ
 
 -- a run "gets the state reached or a start state anew", with any registers, Z, C and S
-pub data Begin : Type 0 where
-  goOn : Begin
-  anew : List ℕ → Bool → Bool → Bool → Begin
+pub data Start : Type 0 where
+  resume : Start
+  restart : List ℕ → Bool → Bool → Bool → Start
 
--- a run "is lent the banks", or buffers of which one is "of another length, lent in a bank's place"
-pub data Lends : Type 0 where
-  these : Lends
-  others : (ops args ram stack : List ℕ) → badBank ops || badBank args || badBank ram || badBank stack ≡ true → Lends
+-- each bank that a run is lent is the list's own, or "a buffer of another length, lent in a bank's place"
+pub data Buffer : Type 0 where
+  own : Buffer
+  foreign : (l : List ℕ) → badBank l ≡ true → Buffer
 
--- "with keys, budget and roll of its own"
-pub record Call : Type 0 where
-  pub begin : Begin
-  pub lends : Lends
+-- a run of the list, "with keys, budget and roll of its own"
+pub record ListedRun : Type 0 where
+  pub start : Start
+  pub opcodes : Buffer
+  pub arguments : Buffer
+  pub ram : Buffer
+  pub stack : Buffer
   pub keys : List ℕ
   pub budget : ℕ
   pub roll : List ℕ
 
-abbrev pub begun : Begin → State → State
-begun goOn s = s
-begun (anew regs z c x) s = startWith regs z c x
+abbrev pub startFrom : Start → State → State
+startFrom resume s = s
+startFrom (restart regs z c x) s = startWith regs z c x
 
--- what a call answers and leaves in what it is lent
-abbrev pub outcomeBy : Lends → Program → Call → World → Outcome
-outcomeBy these p c w =
-    callOf (p .opcodes) (p .arguments) (c .keys) (c .budget) (begun (c .begin) (w .state)) (w .ram) (w .stack) (c .roll)
-outcomeBy (others ops args ram stack q) p c w =
-    callOf ops args (c .keys) (c .budget) (begun (c .begin) (w .state)) ram stack (c .roll)
+abbrev pub lent : Buffer → List ℕ → List ℕ
+lent own l = l
+lent (foreign b q) l = b
 
-unfoldable pub outcomeOf : Program → Call → World → Outcome
-outcomeOf p c w = outcomeBy (c .lends) p c w
+-- what a run of the list is called with, and what it answers and leaves in what it is lent
+abbrev pub callIn : Program → ListedRun → Snapshot → Call
+callIn p r w =
+    record {
+      setting = setting (lent (r .opcodes) (p .opcodes)) (lent (r .arguments) (p .arguments)) (r .keys);
+      budget = r .budget;
+      state = startFrom (r .start) (w .state);
+      ram = lent (r .ram) (w .ram);
+      stack = lent (r .stack) (w .stack);
+      roll = r .roll;
+    }
+
+unfoldable pub outcomeOf : Program → ListedRun → Snapshot → Outcome
+outcomeOf p r w = callOf (callIn p r w)
 
 -- "A refused run leaves both as they were and is no start"
-abbrev pub worldBy : Answer → Outcome → World → World
-worldBy (Refused x) o w = w
-worldBy (Ran x steps cycles words) o w = record { state = o .state; ram = o .ram; stack = o .stack }
+abbrev pub snapshotBy : Answer → Outcome → Snapshot → Snapshot
+snapshotBy (Refused x) o w = w
+snapshotBy (Ran x steps cycles words) o w = record { state = o .state; ram = o .ram; stack = o .stack }
 
-abbrev pub leftBy : Outcome → World → World
-leftBy o w = worldBy (o .answer) o w
+abbrev pub leftBy : Outcome → Snapshot → Snapshot
+leftBy o w = snapshotBy (o .answer) o w
 
--- what a tally is fed: a start anew, or a step with the keys lent and the machine before it
+-- what a tally is fed: a start anew, or a step with what the run reads and the machine before it
 pub data Event : Type 0 where
   starts : Event
-  steps : List ℕ → Machine → Event
+  steps : Setting → Machine → Event
 
-abbrev pub stepsIn : List ℕ → List Machine → List Event
-stepsIn keys [] = []
-stepsIn keys (m ∷ l) = steps keys m ∷ stepsIn keys l
+abbrev pub stepsIn : Setting → List Machine → List Event
+stepsIn x [] = []
+stepsIn x (m ∷ l) = steps x m ∷ stepsIn x l
 
-abbrev pub beginEvents : Begin → List Event
-beginEvents goOn = []
-beginEvents (anew regs z c x) = starts ∷ []
+abbrev pub startEvents : Start → List Event
+startEvents resume = []
+startEvents (restart regs z c x) = starts ∷ []
 
--- the machine at the beginning of a call that is not refused
-abbrev pub callMachine : Call → World → Machine
-callMachine c w = machineOf (begun (c .begin) (w .state)) (w .ram) (w .stack) (c .roll)
+-- what a run that is not refused reads, and the machine at its beginning: its banks are the list's own
+abbrev pub runSetting : Program → ListedRun → Setting
+runSetting p r = record { program = p; keys = r .keys }
+
+abbrev pub runMachine : ListedRun → Snapshot → Machine
+runMachine r w = machineAt (startFrom (r .start) (w .state)) (w .ram) (w .stack) (r .roll) 0 0 0
 
 -- "every step of the list in order, as the second demand defines steps": those of the run's trace
-abbrev pub eventsBy : Answer → Program → Call → World → List Event
-eventsBy (Refused x) p c w = []
-eventsBy (Ran x n cycles words) p c w = beginEvents (c .begin) ++ stepsIn (c .keys) (traceOf p (c .keys) (c .budget) (callMachine c w))
+abbrev pub eventsBy : Answer → Program → ListedRun → Snapshot → List Event
+eventsBy (Refused x) p r w = []
+eventsBy (Ran x n cycles words) p r w =
+    startEvents (r .start) ++ stepsIn (runSetting p r) (traceOf (runSetting p r) (r .budget) (runMachine r w))
 
-abbrev pub callEvents : Program → Call → World → List Event
-callEvents p c w = eventsBy (outcomeOf p c w .answer) p c w
+abbrev pub runEvents : Program → ListedRun → Snapshot → List Event
+runEvents p r w = eventsBy (outcomeOf p r w .answer) p r w
 
 -- the outcomes of a list of runs, and what a tally is fed by it: "Each run is lent the banks as the last one left them"
-unfoldable pub outcomes : Program → List Call → World → List Outcome
+unfoldable pub outcomes : Program → List ListedRun → Snapshot → List Outcome
 outcomes p [] w = []
-outcomes p (c ∷ cs) w = outcomeOf p c w ∷ outcomes p cs (leftBy (outcomeOf p c w) w)
+outcomes p (r ∷ rs) w = outcomeOf p r w ∷ outcomes p rs (leftBy (outcomeOf p r w) w)
 
-unfoldable pub events : Program → List Call → World → List Event
+unfoldable pub events : Program → List ListedRun → Snapshot → List Event
 events p [] w = []
-events p (c ∷ cs) w = callEvents p c w ++ events p cs (leftBy (outcomeOf p c w) w)
+events p (r ∷ rs) w = runEvents p r w ++ events p rs (leftBy (outcomeOf p r w) w)

@@ -7,15 +7,15 @@ use Rattle.isa.specs.declared.Class.{Class}
 use Rattle.isa.specs.declared.Class.the-variants.{Next, Jump, Branch, JumpReg, Call, Return, Push, Pop, Swap, Halt}
 use Rattle.isa.specs.declared.OverflowEffect.{OverflowEffect}
 use Rattle.isa.specs.declared.OverflowEffect.the-variants.{Keeps, Settles, Unsettles}
-use Rattle.model.specs.State.{plusOne}
+use Rattle.model.specs.State.{nextAddress}
 
 pub record Successor : Type 0 where
   pub to : ℕ
-  pub deep : ℕ
+  pub depthThere : ℕ
   pub mark : Bool
 
 abbrev pub successor : ℕ → ℕ → Bool → Successor
-successor t d v = record { to = t; deep = d; mark = v }
+successor t d v = record { to = t; depthThere = d; mark = v }
 
 -- "V may be marked at a successor only if the instruction settles it, or leaves it alone and its own word marks it"
 abbrev pub markAfter : OverflowEffect → Bool → Bool
@@ -27,15 +27,15 @@ markAfter Unsettles v = false
 -- successor is one more after push, one less after pop, else equal. V .. never at the word after a call." At address a, depth d, and with V
 -- marked there or not
 abbrev pub successors : Class → (a d : ℕ) → Bool → List Successor
-successors (Next e) a d v = successor (plusOne a) d (markAfter e v) ∷ []
+successors (Next e) a d v = successor (nextAddress a) d (markAfter e v) ∷ []
 successors (Jump t) a d v = successor t d v ∷ []
-successors (Branch t n) a d v = successor t d v ∷ successor (plusOne a) d v ∷ []
-successors JumpReg a d v = successor (plusOne a) d v ∷ []
-successors (Call t) a d v = successor (plusOne a) d false ∷ []
+successors (Branch t n) a d v = successor t d v ∷ successor (nextAddress a) d v ∷ []
+successors JumpReg a d v = successor (nextAddress a) d v ∷ []
+successors (Call t) a d v = successor (nextAddress a) d false ∷ []
 successors Return a d v = []
-successors (Push r) a d v = successor (plusOne a) (d + 1) v ∷ []
-successors Pop a d v = successor (plusOne a) (d - 1) v ∷ []
-successors (Swap r) a d v = successor (plusOne a) d v ∷ []
+successors (Push r) a d v = successor (nextAddress a) (d + 1) v ∷ []
+successors Pop a d v = successor (nextAddress a) (d - 1) v ∷ []
+successors (Swap r) a d v = successor (nextAddress a) d v ∷ []
 successors Halt a d v = []
 
 -- whether the next word is a successor

@@ -3,12 +3,12 @@
 use mathlib.Core.Path.{refl}
 use Rattle.alu.specs.Alu.{aluOf, sumOf, differenceOf, settlesOf}
 use Rattle.isa.specs.Decode.{formOf, decodeOf}
-use Rattle.model.specs.Step.{instrAt, enactedOf, stepOf}
+use Rattle.model.specs.Step.{instrAt, appliedOf, stepOf}
 use Rattle.rules.specs.Grounds.{each, find, callee, badBlank, badRoutine, badEntry, addressChecks, checks, admitOf}
 use Rattle.slices.specs.Checks.{firstBroken}
 use Rattle.rules.specs.Sheet.{word, described, marked, routine, depth, routines, entry, need}
 use Rattle.worked.specs.Marked.{Marked}
 
 pub marked-rows : Marked
-unfolding aluOf sumOf differenceOf settlesOf stepOf enactedOf instrAt decodeOf formOf admitOf checks addressChecks each firstBroken find callee badBlank badRoutine badEntry word described marked routine depth routines entry need
+unfolding aluOf sumOf differenceOf settlesOf stepOf appliedOf instrAt decodeOf formOf admitOf checks addressChecks each firstBroken find callee badBlank badRoutine badEntry word described marked routine depth routines entry need
 marked-rows b = refl
