@@ -7,8 +7,9 @@ use mathlib.Core.List.{List, [], _∷_}
 use lib.ListN.{getD}
 use Rattle.alu.specs.declared.Overflow.{Overflow}
 use Rattle.alu.specs.declared.Overflow.the-variants as overflow
-use Rattle.model.specs.Run.{Outcome, refusalNumber}
-use Rattle.model.specs.Time.{timeNumber}
+use Rattle.model.specs.Run.{Call, callOf, refusalNumber}
+use Rattle.model.specs.RunPromise.{RunPromise}
+use Rattle.model.specs.Time.{timeOf, timeNumber, TimePromise}
 use Rattle.model.specs.declared.Answer.{Answer}
 use Rattle.model.specs.declared.Answer.the-variants.{Refused, Ran}
 use Rattle.model.specs.declared.RunningTime.{RunningTime}
@@ -57,15 +58,21 @@ abbrev pub runNumbers : Answer → State → RunNumbers
 runNumbers (Refused x) s = (refusalNumber x, 0, 0, 0, 0, stateNumbers s)
 runNumbers (Ran x steps cycles words) s = (0, stopNumber x, steps, cycles, words, stateNumbers s)
 
--- the whole outcome o of a run, as numbers and lent memory
-pub record RunNumbered (o : Outcome) (r : RunNumbers) (ram stack roll : List ℕ) : Type 0 where
-  pub report : r ≡ runNumbers (o .answer) (o .state)
-  pub ram-left : ram ≡ o .ram
-  pub stack-left : stack ≡ o .stack
-  pub roll-left : roll ≡ o .roll
+-- the whole outcome of a run's call, as numbers and lent memory, and what a run promises of it
+pub record RunNumbered (c : Call) (r : RunNumbers) (ram stack roll : List ℕ) : Type 0 where
+  pub report : r ≡ runNumbers (callOf c .answer) (callOf c .state)
+  pub ram-left : ram ≡ callOf c .ram
+  pub stack-left : stack ≡ callOf c .stack
+  pub roll-left : roll ≡ callOf c .roll
+  pub promise : RunPromise c (callOf c)
 
 -- 01's number, and the tenths, 0 where there are none
 abbrev pub timeNumbers : RunningTime → TimeNumbers
 timeNumbers (Tenths n) = (0, n)
 timeNumbers BadClock = (timeNumber BadClock, 0)
 timeNumbers BadCycles = (timeNumber BadCycles, 0)
+
+-- a running time as numbers, and what is promised of it
+pub record TimeNumbered (cycles clock : ℕ) (r : TimeNumbers) : Type 0 where
+  pub report : r ≡ timeNumbers (timeOf cycles clock)
+  pub promise : TimePromise cycles clock (timeOf cycles clock)

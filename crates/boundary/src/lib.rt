@@ -5,9 +5,8 @@ pub mod runs;
 
 ghost use mathlib.Core.Path.{_≡_};
 ghost use Rattle.alu.specs.Alu.{aluOf};
-ghost use Rattle.model.specs.Run.{callOf};
-ghost use Rattle.model.specs.Time.{timeOf};
-ghost use Rattle.boundary.specs.Runs.{stateOf, timeNumbers, RunNumbered};
+ghost use Rattle.model.specs.Run.{call};
+ghost use Rattle.boundary.specs.Runs.{stateOf, RunNumbered, TimeNumbered};
 ghost use Rattle.boundary.specs.Numbers.{instrOf, computedNumbers, factNumbersOf, PutNumber, Decoded, EncodedAs};
 
 // An instruction: row of the instruction table, d, a, f, b, immediate or address.
@@ -112,7 +111,7 @@ pub fn run(
     budget: u32,
     start: StateNumbers,
 ) -> RunNumbers
-    ensures { λ r. ⌜ RunNumbered (callOf (now (opcodes .entry)) (now (arguments .entry)) (now (keys .entry)) budget (stateOf start) (now (ram .entry)) (now (stack .entry)) (now (roll .entry))) r (now (ram .exit)) (now (stack .exit)) (now (roll .exit)) ⌝ }
+    ensures { λ r. ⌜ RunNumbered (call (now (opcodes .entry)) (now (arguments .entry)) (now (keys .entry)) budget (stateOf start) (now (ram .entry)) (now (stack .entry)) (now (roll .entry))) r (now (ram .exit)) (now (stack .exit)) (now (roll .exit)) ⌝ }
 {
     let s = runs::state_of(start);
     let report = machine::run(opcodes, arguments, keys, ram, stack, roll, budget, s);
@@ -124,7 +123,7 @@ pub fn run(
 // The tenths of a second that so many cycles take at a clock in Hz, or the number of a refusal.
 // Crate `runs` exports it.
 pub fn running_time(cycles: u32, clock: u32) -> TimeNumbers
-    ensures { λ r. ⌜ r ≡ timeNumbers (timeOf cycles clock) ⌝ }
+    ensures { λ r. ⌜ TimeNumbered cycles clock r ⌝ }
 {
     runs::time_numbers(machine::running_time(cycles, clock))
 }

@@ -3,10 +3,8 @@
 use boundary::RunNumbers;
 use boundary::StateNumbers;
 use boundary::TimeNumbers;
-ghost use mathlib.Core.Path.{_≡_};
-ghost use Rattle.model.specs.Run.{callOf};
-ghost use Rattle.model.specs.Time.{timeOf};
-ghost use Rattle.boundary.specs.Runs.{stateOf, timeNumbers, RunNumbered};
+ghost use Rattle.model.specs.Run.{call};
+ghost use Rattle.boundary.specs.Runs.{stateOf, RunNumbered, TimeNumbered};
 
 // A run's report, or the number of a refusal that leaves everything lent as it was.
 #[no_mangle]
@@ -20,7 +18,7 @@ pub extern "C" fn cesca_run(
     budget: u32,
     start: StateNumbers,
 ) -> RunNumbers
-    ensures { λ r. ⌜ RunNumbered (callOf (now (opcodes .entry)) (now (arguments .entry)) (now (keys .entry)) budget (stateOf start) (now (ram .entry)) (now (stack .entry)) (now (roll .entry))) r (now (ram .exit)) (now (stack .exit)) (now (roll .exit)) ⌝ }
+    ensures { λ r. ⌜ RunNumbered (call (now (opcodes .entry)) (now (arguments .entry)) (now (keys .entry)) budget (stateOf start) (now (ram .entry)) (now (stack .entry)) (now (roll .entry))) r (now (ram .exit)) (now (stack .exit)) (now (roll .exit)) ⌝ }
 {
     boundary::run(opcodes, arguments, keys, ram, stack, roll, budget, start)
 }
@@ -28,7 +26,7 @@ pub extern "C" fn cesca_run(
 // The tenths of a second that so many cycles take at a clock in Hz, or the number of a refusal.
 #[no_mangle]
 pub extern "C" fn cesca_running_time(cycles: u32, clock: u32) -> TimeNumbers
-    ensures { λ r. ⌜ r ≡ timeNumbers (timeOf cycles clock) ⌝ }
+    ensures { λ r. ⌜ TimeNumbered cycles clock r ⌝ }
 {
     boundary::running_time(cycles, clock)
 }

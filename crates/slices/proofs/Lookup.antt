@@ -5,11 +5,7 @@ use mathlib.Core.List.{List, [], _∷_, _++_}
 use Prim.Native.Nat.{ℕ, zero, suc, _≤_}
 use native.Mathlib.Nat.{le-of-suc-le-suc, not-suc-le-zero}
 use lib.ListN.{length, getD}
-
--- a function applied to each element
-abbrev pub mapped : {A B : Type 0} → (A → B) → List A → List B
-mapped f [] = []
-mapped f (x ∷ l) = f x ∷ mapped f l
+use Rattle.slices.specs.Lists.{mapped}
 
 pub getD-mapped : {A B : Type 0} (f : A → B) (l : List A) (n : ℕ) (d : A) → f (getD l n d) ≡ getD (mapped f l) n (f d)
 getD-mapped f [] n d = refl

@@ -2,6 +2,7 @@
 -- Assumes nothing.
 use mathlib.Core.Path.{_≡_, ap, _∙_}
 use Rattle.model.specs.Run.{Outcome}
+use Rattle.model.proofs.Promises.{run-promise}
 use Rattle.boundary.specs.Runs.{runNumbers}
 use borrow.Author.Needs.{needs}
 use Rattle.boundary.proofs.run.Statement.{statement}
@@ -18,10 +19,12 @@ run-spec =
     (λ c. search needs)
     (λ c. search needs)
     (λ c.
-    let o = rw (c .before .before .before .before .before .before .before .before .before .before .before .before .state-of .ensures) at (c .before .before .before .before .before .before .before .before .run .ensures) in
+    let ran = c .before .before .before .before .before .before .before .before in
+    let o = rw (ran .before .before .before .before .state-of .ensures) at (ran .run .ensures .computed) in
     record {
       report = c .run-numbers .ensures ∙ ap (λ (x : Outcome). runNumbers (x .answer) (x .state)) o;
       ram-left = ap (λ (x : Outcome). x .ram) o;
       stack-left = ap (λ (x : Outcome). x .stack) o;
       roll-left = ap (λ (x : Outcome). x .roll) o;
+      promise = run-promise _;
     }))

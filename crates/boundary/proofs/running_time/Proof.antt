@@ -1,6 +1,7 @@
 -- The numbers of the time.
 -- Assumes nothing.
 use mathlib.Core.Path.{ap, _∙_}
+use Rattle.model.proofs.Promises.{time-promise}
 use Rattle.boundary.specs.Runs.{timeNumbers}
 use borrow.Author.Needs.{needs}
 use Rattle.boundary.proofs.running_time.Statement.{statement}
@@ -12,4 +13,4 @@ running-time-spec =
     (tie.spec
     (λ c κs. search needs)
     (λ c κs. search needs)
-    (λ c. c .time-numbers .ensures ∙ ap timeNumbers (c .before .running-time .ensures)))
+    (λ c. record { report = c .time-numbers .ensures ∙ ap timeNumbers (c .before .running-time .ensures .computed); promise = time-promise _ _ }))

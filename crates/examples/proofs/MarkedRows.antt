@@ -1,5 +1,6 @@
 -- The rows marked for proof, computed.
 -- Assumes nothing.
+use Prim.Native.Nat.{ℕ}
 use mathlib.Core.Path.{refl}
 use Rattle.alu.specs.Alu.{aluOf, sumOf, differenceOf, settlesOf}
 use Rattle.isa.specs.Decode.{formOf, decodeOf}
@@ -7,8 +8,8 @@ use Rattle.model.specs.Step.{instrAt, appliedOf, stepOf}
 use Rattle.rules.specs.Grounds.{each, find, callee, badBlank, badRoutine, badEntry, addressChecks, checks, admitOf}
 use Rattle.slices.specs.Checks.{firstBroken}
 use Rattle.rules.specs.Sheet.{word, described, marked, routine, depth, routines, entry, need}
-use Rattle.worked.specs.Marked.{Marked}
+use Rattle.examples.specs.Marked.{Marked}
 
-pub marked-rows : Marked
+pub marked-rows : (b : ℕ) → Marked b
 unfolding aluOf sumOf differenceOf settlesOf stepOf appliedOf instrAt decodeOf formOf admitOf checks addressChecks each firstBroken find callee badBlank badRoutine badEntry word described marked routine depth routines entry need
-marked-rows b = refl
+marked-rows b = record { numbers = refl; as-stated = refl }
