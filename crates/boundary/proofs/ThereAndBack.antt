@@ -4,6 +4,7 @@ use mathlib.Core.Path.{_≡_, refl}
 use Prim.Native.Nat.{ℕ}
 use native.Mathlib.Omega.{arith}
 use Rattle.isa.specs.Decode.{decodeOf}
+use Rattle.isa.specs.Encode.{numberOf, Accepted}
 use Rattle.isa.specs.RoundTrip.{ReadsBack}
 use Rattle.isa.specs.declared.Encoded.{Encoded}
 use Rattle.isa.specs.declared.Encoded.the-variants.{Bytes, BadBank, BadRegister, BadFunction}
@@ -53,6 +54,16 @@ there-and-back (OutReg a) = refl
 there-and-back (OutMem i) = refl
 there-and-back Hlt = refl
 there-and-back Nop = refl
+
+-- an answer's first number is 01's, and the two others are its bytes
+pub number-first : (e : Encoded) → encodingOf e .0 ≡ numberOf e
+number-first (Bytes op arg) = refl
+number-first BadBank = refl
+number-first BadRegister = refl
+number-first BadFunction = refl
+
+pub bytes-held : (e : Encoded) → Accepted e → e ≡ Bytes (encodingOf e .1) (encodingOf e .2)
+bytes-held e a = rw (a .bytes)
 
 pub bytes-read-back : (i : Instr) (e : Encoded) → ReadsBack i e → encodingOf e .0 ≡ 0 → decodeOf (encodingOf e .1) (encodingOf e .2) ≡ i
 bytes-read-back i (Bytes op arg) h z = h op arg refl

@@ -17,5 +17,5 @@ cesca-decode-spec =
     let d = c .before .decode .ensures in
     record {
       table = c .fields .ensures ∙ ap fieldsOf (d .table);
-      writes-back = rw (c .fields .ensures, there-and-back) (d .writes-back);
+      decodes = rw (c .fields .ensures, there-and-back) d;
     }))
