@@ -114,17 +114,20 @@ factNumbers n class.Halt w = (n, 9, 0, 0, false, w)
 abbrev pub factNumbersOf : Instr → FactNumbers
 factNumbersOf i = factNumbers (cyclesOf i) (classOf i) (writesRoll i)
 
--- what the numbers of two bytes promise: those of the table's form, and the form that they are is one that `Decodes` describes
+-- the numbers of two bytes
 pub record Decoded (op arg : ℕ) (r : Fields) : Type 0 where
   pub table : r ≡ fieldsOf (decodeOf op arg)
+  -- the form that they are keeps what decoding promises
   pub decodes : Decodes op arg (instrOf r)
 
--- what encoding these numbers promises, as `Encodes` does: a valid form is accepted, and any other refused by the first rule it breaks;
--- and "instruction -> two bytes -> instruction is the identity"
+-- the answer to an instruction to be encoded, as `Encodes` says it
 pub record EncodedAs (x : Fields) (r : Encoding) : Type 0 where
   pub rule : r ≡ encodingOf (encodeOf (instrOf x))
+  -- a valid form is accepted
   pub accepted : Valid (instrOf x) → encodeOf (instrOf x) ≡ Bytes (r .1) (r .2)
+  -- "every other call is refused by the first rule it breaks"
   pub checked : FirstViolation (encodeChecks (instrOf x)) (r .0)
+  -- "instruction -> two bytes -> instruction is the identity"
   pub reads-back : r .0 ≡ 0 → decodeOf (r .1) (r .2) ≡ instrOf x
 
 -- the whole outcome of putting i into the banks ops and args at an address, as `Put` says it: 01's number, and both banks afterwards
@@ -132,10 +135,12 @@ pub record PutNumber (i : Instr) (ops args : List ℕ) (at number : ℕ) (ops′
   pub answers : number ≡ numberOf (putOf i ops args)
   pub opcodes : ops′ ≡ opcodesAfter (putOf i ops args) ops at
   pub arguments : args′ ≡ argumentsAfter (putOf i ops args) args at
+  -- a valid form and two good banks are accepted
   pub accepted : NoneBroken (putChecks i ops args) → Accepted (putOf i ops args)
+  -- "every other call is refused by the first rule it breaks", "and no lent byte changes"
   pub checked : PutChecked i ops args number ops′ args′
 
--- the numbers of a result that function f gives
+-- the numbers of what function f gives
 pub record ComputedAs (f x y : ℕ) (c : Bool) (r : ComputedNumbers) : Type 0 where
   pub computed : Computed
   pub computes : Computes f x y c computed

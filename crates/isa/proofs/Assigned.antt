@@ -1,7 +1,7 @@
 -- Every opcode matches just one of the forty rows, by one test over the 64 numbers of the upper six bits, and so the row that decoding
 -- finds is one that matches. Its letters hold what was cut from the two bytes.
 -- Assumes nothing.
-use mathlib.Core.Path.{_≡_, refl, sym}
+use mathlib.Core.Path.{_≡_, refl}
 use mathlib.Core.Bool.{Bool, true, false, cond}
 use mathlib.Core.List.{List, [], _∷_}
 use Prim.Native.Nat.{ℕ, suc, _/_, _%_, _<_}

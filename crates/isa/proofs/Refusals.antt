@@ -8,7 +8,7 @@ use native.Mathlib.Omega.{arith}
 use Rattle.slices.specs.Checks.{Check, check, firstBroken, NoneBroken, FirstViolation}
 use Rattle.slices.specs.Sizes.{badBank}
 use Rattle.slices.proofs.Checks.{Numbered, none-broken, first-violation}
-use Rattle.isa.specs.Encode.{badRegister, badFunction, encodeChecks, Valid, putChecks, opcodeByte, argumentByte, joinOf, encodeOf, numberOf, Accepted, putOf, opcodesAfter, argumentsAfter, PutChecked, Put}
+use Rattle.isa.specs.Encode.{badRegister, badFunction, encodeChecks, Valid, putChecks, opcodeByte, argumentByte, joinOf, encodeOf, numberOf, Accepted, putOf, opcodesAfter, argumentsAfter, Put}
 use Rattle.isa.specs.Table.{rowOf, opcodeIn, argumentIn}
 use Rattle.isa.specs.declared.Encoded.{Encoded}
 use Rattle.isa.specs.declared.Encoded.the-variants.{Bytes, BadBank, BadRegister, BadFunction}
@@ -87,9 +87,9 @@ module _ (i : Instr) (ops args : List ℕ) where
         arguments = g;
         accepted = λ v. rw a (put-accepted v);
         checked =
-        record {
-          first = rw (a, put-first) (first-violation (putChecks i ops args) numbered);
-          opcodes-kept = λ broken. o ∙ refusal-keeps _ (no-bytes broken) ops at .0;
-          arguments-kept = λ broken. g ∙ refusal-keeps _ (no-bytes broken) args at .1;
-        };
+            record {
+              first = rw (a, put-first) (first-violation (putChecks i ops args) numbered);
+              opcodes-kept = λ broken. o ∙ refusal-keeps _ (no-bytes broken) ops at .0;
+              arguments-kept = λ broken. g ∙ refusal-keeps _ (no-bytes broken) args at .1;
+            };
       }

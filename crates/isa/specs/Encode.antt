@@ -2,7 +2,7 @@
 -- Assumes nothing.
 use Prim.Native.Nat.{ℕ, _+_, _*_, _%_}
 use mathlib.Core.Path.{_≡_}
-use mathlib.Core.Bool.{Bool, true, false, cond, _||_}
+use mathlib.Core.Bool.{Bool, false, cond, _||_}
 use mathlib.Core.List.{List, [], _∷_}
 use lib.Dec.{ltb}
 use lib.ListN.{set}
@@ -105,9 +105,11 @@ argumentsAfter BadBank bank at = bank
 argumentsAfter BadRegister bank at = bank
 argumentsAfter BadFunction bank at = bank
 
--- First demand, of a call to put i: every call that breaks a rule is refused by the first one it breaks, and no lent byte changes
+-- the first demand of a call to put i, which answers a number
 pub record PutChecked (i : Instr) (ops args : List ℕ) (number : ℕ) (ops′ args′ : List ℕ) : Type 0 where
+  -- "every other call is refused by the first rule it breaks"
   pub first : FirstViolation (putChecks i ops args) number
+  -- "and no lent byte changes"
   pub opcodes-kept : (NoneBroken (putChecks i ops args) → ⊥) → ops′ ≡ ops
   pub arguments-kept : (NoneBroken (putChecks i ops args) → ⊥) → args′ ≡ args
 
@@ -116,5 +118,6 @@ pub record Put (i : Instr) (ops args : List ℕ) (at : ℕ) (answer : Encoded) (
   pub answers : answer ≡ putOf i ops args
   pub opcodes : ops′ ≡ opcodesAfter (putOf i ops args) ops at
   pub arguments : args′ ≡ argumentsAfter (putOf i ops args) args at
+  -- a valid form and two good banks are accepted
   pub accepted : NoneBroken (putChecks i ops args) → Accepted answer
   pub checked : PutChecked i ops args (numberOf answer) ops′ args′

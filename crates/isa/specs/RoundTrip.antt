@@ -1,5 +1,5 @@
--- The second demand's sentences on encoding: "instruction -> two bytes -> instruction is the identity; two bytes read and written again
--- differ only in free bits".
+-- What decoding two bytes and encoding an instruction promise; above all the second demand's sentences: "instruction -> two bytes ->
+-- instruction is the identity; two bytes read and written again differ only in free bits".
 -- Assumes nothing.
 use Prim.Native.Nat.{ℕ, _/_, _%_}
 use mathlib.Core.Path.{_≡_}
@@ -27,18 +27,22 @@ pub record Assigned (op : ℕ) (i : Instr) : Type 0 where
   pub one-row : (d a f b n : ℕ) → rowsFor (op / 16) (op / 4 % 4) (forms d a f b n) ≡ 1
   pub its-row : matches (op / 16) (op / 4 % 4) (opcodeIn (rowOf i)) ≡ true
 
--- what decoding two bytes promises: the table's form, whose opcode it is, with register and function numbers in range, and
--- "two bytes read and written again differ only in free bits"
 pub record Decodes (op arg : ℕ) (i : Instr) : Type 0 where
+  -- "the fields are those of 003's table"
   pub table : i ≡ decodeOf op arg
+  -- "All 256 opcodes are assigned, to forty forms"
   pub assigned : Assigned op i
+  -- its register and function numbers are in range
   pub valid : Valid i
+  -- "two bytes read and written again differ only in free bits"
   pub writes-back : WritesBack op arg i
 
--- what encoding an instruction promises: the answer by its row; a valid form is accepted, and any other refused by the first rule it breaks;
--- and "instruction -> two bytes -> instruction is the identity"
 pub record Encodes (i : Instr) (e : Encoded) : Type 0 where
+  -- the bytes of its row, or its refusal
   pub rule : e ≡ encodeOf i
+  -- a valid form is accepted
   pub accepted : Valid i → Accepted e
+  -- "every other call is refused by the first rule it breaks"
   pub checked : FirstViolation (encodeChecks i) (numberOf e)
+  -- "instruction -> two bytes -> instruction is the identity"
   pub reads-back : ReadsBack i e

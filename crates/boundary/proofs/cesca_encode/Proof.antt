@@ -3,7 +3,7 @@
 use mathlib.Core.Path.{ap, _∙_}
 use Rattle.isa.specs.Encode.{encodeOf}
 use Rattle.boundary.specs.Numbers.{encodingOf}
-use Rattle.boundary.proofs.ThereAndBack.{number-first, bytes-held, bytes-read-back}
+use Rattle.boundary.proofs.FieldsInverse.{number-checked, bytes-held, bytes-read-back}
 use borrow.Author.Needs.{needs}
 use Rattle.boundary.proofs.cesca_encode.Statement.{statement}
 use Rattle.boundary.proofs.cesca_encode.Tie as tie
@@ -22,6 +22,6 @@ cesca-encode-spec =
     record {
       rule = n ∙ ap encodingOf (e .rule ∙ ap encodeOf i);
       accepted = rw (← i, n, ← e .rule) (λ v. bytes-held _ (e .accepted v));
-      checked = rw (← i, n, number-first) (e .checked);
+      checked = rw (← i, n) (number-checked _ (c .before .encode .result) (e .checked));
       reads-back = rw (← i, n) (bytes-read-back _ _ (e .reads-back));
     }))
