@@ -4,10 +4,9 @@ pub mod numbers;
 pub mod runs;
 
 ghost use mathlib.Core.Path.{_≡_};
-ghost use Rattle.alu.specs.Alu.{aluOf};
 ghost use Rattle.model.specs.Run.{call};
 ghost use Rattle.boundary.specs.Runs.{stateOf, RunNumbered, TimeNumbered};
-ghost use Rattle.boundary.specs.Numbers.{instrOf, computedNumbers, factNumbersOf, PutNumber, Decoded, EncodedAs};
+ghost use Rattle.boundary.specs.Numbers.{instrOf, factNumbersOf, Decoded, EncodedAs, PutNumber, ComputedAs};
 
 // An instruction: row of the instruction table, d, a, f, b, immediate or address.
 #[repr(C)]
@@ -83,7 +82,7 @@ pub extern "C" fn cesca_put(fields: Fields, opcodes: &mut [u8], arguments: &mut 
 // Function f of Ra's byte x, Rb's byte y and the carry flag: result and flags as numbers.
 #[no_mangle]
 pub extern "C" fn cesca_alu(f: u8, x: u8, y: u8, c: bool) -> ComputedNumbers
-    ensures { λ r. ⌜ r ≡ computedNumbers (aluOf f x y c) ⌝ }
+    ensures { λ r. ⌜ ComputedAs f x y c r ⌝ }
 {
     numbers::computed(alu::alu(f, x, y, c))
 }

@@ -10,7 +10,6 @@ use isa::Encoded;
 use isa::Instr;
 use isa::OverflowEffect;
 ghost use mathlib.Core.Path.{_≡_};
-ghost use mathlib.Core.Bool.{Bool};
 ghost use Rattle.boundary.specs.Numbers.{fieldsOf, instrOf, encodingOf, overflowNumber, computedNumbers, effectNumber, factNumbers};
 
 // The numbers of an instruction.

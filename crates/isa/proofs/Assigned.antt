@@ -1,7 +1,7 @@
 -- Every opcode matches just one of the forty rows, by one test over the 64 numbers of the upper six bits, and so the row that decoding
 -- finds is one that matches. Its letters hold what was cut from the two bytes.
 -- Assumes nothing.
-use mathlib.Core.Path.{_≡_, refl, sym}
+use mathlib.Core.Path.{_≡_, refl}
 use mathlib.Core.Bool.{Bool, true, false, cond}
 use mathlib.Core.List.{List, [], _∷_}
 use Prim.Native.Nat.{ℕ, suc, _/_, _%_, _<_}
@@ -11,7 +11,6 @@ use borrow.Author.Tests.{eqb-true}
 use Rattle.slices.proofs.Below.{at}
 use Rattle.slices.proofs.Lookup.{mapped}
 use Rattle.isa.specs.Decode.{forms, matches, rowsFor, firstFor, formOf}
-use Rattle.isa.specs.RoundTrip.{Assigned}
 use Rattle.isa.specs.Table.{row, rowOf, opcodeIn, argumentIn}
 use Rattle.isa.specs.declared.Argument.{Argument}
 use Rattle.isa.specs.declared.Argument.the-variants.{FFFFXXBB, IIIIIIII, XXXXXXBB, XXXXXXXX}
@@ -25,7 +24,7 @@ use Rattle.isa.specs.declared.Row.{Row}
 abbrev one-row : ℕ → Bool
 one-row g = eqb (rowsFor (g / 4) (g % 4) (forms 0 0 0 0 0)) 1
 
-pub assigned : Assigned
+pub assigned : (op d a f b i : ℕ) → op < 256 → rowsFor (op / 16) (op / 4 % 4) (forms d a f b i) ≡ 1
 assigned op d a f b i h =
     let e : op / 4 / 4 ≡ op / 16 = omega arith in
     rw (← e) (eqb-true (rowsFor (op / 4 / 4) (op / 4 % 4) (forms d a f b i)) 1 (at one-row 64 refl (op / 4) (omega arith)))

@@ -10,9 +10,9 @@ use lib.Bits.{bitAnd, and-mask, and-high, and-block, and-zero-r}
 use borrow.Author.Tests.{le-ltb, eqb-true}
 use Rattle.slices.proofs.Bools.{both}
 use Rattle.isa.specs.Decode.{forms, matches, formOf, decodeOf}
-use Rattle.isa.specs.Encode.{badInOpcode, badInArgument, badFunction, opcodeByte, argumentByte, joinOf, encodeOf, numberOf}
+use Rattle.isa.specs.Encode.{badInOpcode, badInArgument, badFunction, Valid, opcodeByte, argumentByte, encodeOf}
 use Rattle.isa.specs.Free.{freeInOpcode, freeInArgument, without}
-use Rattle.isa.specs.RoundTrip.{Valid, DecodeThenEncode, ValidAccepted, DecodedValid}
+use Rattle.isa.specs.RoundTrip.{WritesBack, Assigned}
 use Rattle.isa.specs.Table.{rowOf, opcodeIn, argumentIn}
 use Rattle.isa.specs.declared.Argument.{Argument}
 use Rattle.isa.specs.declared.Argument.the-variants.{FFFFXXBB, IIIIIIII, XXXXXXBB, XXXXXXXX}
@@ -21,6 +21,7 @@ use Rattle.isa.specs.declared.Opcode.{Opcode}
 use Rattle.isa.specs.declared.Opcode.the-variants.{DDAA, DDXX, OOAA, OOXX}
 use Rattle.isa.specs.declared.Row.{Row}
 use Rattle.isa.proofs.Assigned.{assigned, first-matches, fillOpcode, fillArgument, fillRow, found-filled}
+use Rattle.isa.proofs.Refusals.{joins}
 
 -- a byte without bits 3 and 2
 ends : (n : ℕ) → n < 256 → n / 16 * 16 + n % 4 ≡ bitAnd n 243
@@ -84,16 +85,6 @@ module _ (arg : ℕ) (h : arg < 256) where
   cut-argument-joined (XXXXXXBB b) = omega (arith, and-mask arg 2)
   cut-argument-joined XXXXXXXX = sym (and-zero-r arg)
 
--- a row with good letters is not refused
-joins : (r : Row) → badInOpcode (opcodeIn r) ≡ false → badInArgument (argumentIn r) ≡ false → badFunction (argumentIn r) ≡ false
-    → joinOf r ≡ Bytes (opcodeByte (opcodeIn r)) (argumentByte (argumentIn r))
-unfolding joinOf
-joins r o g f = rw (o, g, f)
-
-pub valid-accepted : ValidAccepted
-unfolding encodeOf
-valid-accepted i v = ap numberOf (joins (rowOf i) (v .opcode) (v .argument) (v .function))
-
 -- the row of a decoded instruction
 module _ (op arg : ℕ) (ho : op < 256) (ha : arg < 256) where
   abbrev found : Row
@@ -115,13 +106,12 @@ module _ (op arg : ℕ) (ho : op < 256) (ha : arg < 256) where
   argument-filled : cutArgument arg ha (argumentIn found) ≡ argumentIn found
   argument-filled = ap argumentIn filled
 
-  valid-found : Valid (decodeOf op arg)
-  valid-found =
-      record {
-        opcode = rw opcode-filled at (cut-good op (opcodeIn found));
-        argument = rw argument-filled at (cut-register arg ha (argumentIn found));
-        function = rw argument-filled at (cut-function arg ha (argumentIn found));
-      }
+  pub decoded-valid : Valid (decodeOf op arg)
+  decoded-valid =
+      let o = rw opcode-filled at (cut-good op (opcodeIn found)) in
+      let g = rw argument-filled at (cut-register arg ha (argumentIn found)) in
+      let f = rw argument-filled at (cut-function arg ha (argumentIn found)) in
+      (rw (o, g), (f, tt))
 
   opcode-cleared : opcodeByte (opcodeIn found) ≡ without (freeInOpcode (opcodeIn found)) op
   opcode-cleared = ap opcodeByte (sym opcode-filled) ∙ cut-joined op ho (opcodeIn found) fixed-bits
@@ -129,11 +119,11 @@ module _ (op arg : ℕ) (ho : op < 256) (ha : arg < 256) where
   argument-cleared : argumentByte (argumentIn found) ≡ without (freeInArgument (argumentIn found)) arg
   argument-cleared = ap argumentByte (sym argument-filled) ∙ cut-argument-joined arg ha (argumentIn found)
 
-pub decoded-valid : DecodedValid
-decoded-valid = valid-found
+  pub decoded-assigned : Assigned op (decodeOf op arg)
+  decoded-assigned = record { one-row = λ d a f b n. assigned op d a f b n ho; its-row = fixed-bits }
 
-pub decode-encode : DecodeThenEncode
-unfolding encodeOf
-decode-encode op arg ho ha =
-    let v = valid-found op arg ho ha in
-    joins (rowOf (decodeOf op arg)) (v .opcode) (v .argument) (v .function) ∙ ap₂ Bytes (opcode-cleared op arg ho ha) (argument-cleared op arg ho ha)
+  pub decode-encode : WritesBack op arg (decodeOf op arg)
+  unfolding encodeOf
+  decode-encode =
+      let v = decoded-valid in
+      joins found (v .0) (v .1 .0) ∙ ap₂ Bytes opcode-cleared argument-cleared

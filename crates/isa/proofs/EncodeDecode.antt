@@ -2,15 +2,15 @@
 -- shown for each of the four kinds of opcode and of argument.
 -- Assumes nothing.
 use mathlib.Core.Path.{_≡_, refl}
-use mathlib.Core.Bool.{Bool, true, false, cond, _||_}
+use mathlib.Core.Bool.{Bool, true, false, cond}
 use Prim.Native.Nat.{ℕ, _/_, _%_}
 use native.Mathlib.Omega.{arith}
 use lib.Dec.{ltb}
 use borrow.Author.Tests.{ltb-false}
 use Rattle.slices.proofs.Bools.{neither}
 use Rattle.isa.specs.Decode.{formOf, decodeOf}
-use Rattle.isa.specs.Encode.{badInOpcode, badInArgument, badFunction, opcodeByte, argumentByte, joinOf, encodeOf}
-use Rattle.isa.specs.RoundTrip.{EncodeThenDecode}
+use Rattle.isa.specs.Encode.{badInOpcode, badInArgument, badRegister, badFunction, opcodeByte, argumentByte, joinOf, encodeOf}
+use Rattle.isa.specs.RoundTrip.{ReadsBack}
 use Rattle.isa.specs.Table.{rowOf, opcodeIn, argumentIn}
 use Rattle.isa.specs.declared.Argument.{Argument}
 use Rattle.isa.specs.declared.Argument.the-variants.{FFFFXXBB, IIIIIIII, XXXXXXBB, XXXXXXXX}
@@ -143,12 +143,12 @@ accepted true b x y op arg h = (cc, cc, cc, cc)
 accepted false true x y op arg h = (cc, cc, cc, cc)
 accepted false false x y op arg h = (refl, refl, cc, cc)
 
-pub encode-decode : EncodeThenDecode
+pub encode-decode : (i : Instr) → ReadsBack i (encodeOf i)
 unfolding encodeOf joinOf decodeOf
 encode-decode i op arg h =
     let o = opcodeIn (rowOf i) in
     let g = argumentIn (rowOf i) in
-    let t = accepted (badInOpcode o || badInArgument g) (badFunction g) (opcodeByte o) (argumentByte g) op arg h in
+    let t = accepted (badRegister (rowOf i)) (badFunction g) (opcodeByte o) (argumentByte g) op arg h in
     let good = neither (badInOpcode o) (badInArgument g) (t .0) in
     let co = cut-opcode o (good .0) in
     let cg = cut-argument g (good .1) (t .1) in

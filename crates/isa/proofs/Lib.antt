@@ -4,3 +4,4 @@ pub mod Banks
 pub mod DecodeEncode
 pub mod EncodeDecode
 pub mod Joined
+pub mod Refusals

@@ -62,7 +62,7 @@ matches t e (DDXX p d) = eqb t p
 matches t e (OOAA p a) = eqb t (p / 4) && eqb e (p % 4)
 matches t e (OOXX p) = eqb t (p / 4) && eqb e (p % 4)
 
--- how many forms of a list are rows for t and e. 01: "All 256 opcodes are assigned": of the forty, one is (proofs/Assigned.antt)
+-- how many forms of a list are rows for t and e. 01: "All 256 opcodes are assigned": of the forty, one is
 abbrev pub rowsFor : ℕ → ℕ → List Instr → ℕ
 rowsFor t e [] = 0
 rowsFor t e (i ∷ l) = cond (matches t e (opcodeIn (rowOf i))) (suc (rowsFor t e l)) (rowsFor t e l)

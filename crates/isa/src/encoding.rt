@@ -167,10 +167,10 @@ pub fn number(e: Encoded) -> u8
 pub fn put(instr: Instr, opcodes: &mut [u8], arguments: &mut [u8], at: u8) -> Encoded
     ensures { λ r. ⌜ Put instr (now (opcodes .entry)) (now (arguments .entry)) at r (now (opcodes .exit)) (now (arguments .exit)) ⌝ }
 {
-    if opcodes.len() != 256 {
+    if opcodes.len() != slices::BANK_SIZE {
         return Encoded::BadBank;
     }
-    if arguments.len() != 256 {
+    if arguments.len() != slices::BANK_SIZE {
         return Encoded::BadBank;
     }
     let e = encode(instr);

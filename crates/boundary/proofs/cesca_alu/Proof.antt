@@ -1,7 +1,5 @@
 -- The numbers of the result.
 -- Assumes nothing.
-use mathlib.Core.Path.{ap, _∙_}
-use Rattle.boundary.specs.Numbers.{computedNumbers}
 use borrow.Author.Needs.{needs}
 use Rattle.boundary.proofs.cesca_alu.Statement.{statement}
 use Rattle.boundary.proofs.cesca_alu.Tie as tie
@@ -12,4 +10,4 @@ cesca-alu-spec =
     (tie.spec
     (λ c κs. search needs)
     (λ c κs. search needs)
-    (λ c. c .computed .ensures ∙ ap computedNumbers (c .before .alu .ensures)))
+    (λ c. record { computed = c .before .alu .result; computes = c .before .alu .ensures; numbers = c .computed .ensures }))

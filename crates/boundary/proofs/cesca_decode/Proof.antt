@@ -2,7 +2,7 @@
 -- Assumes nothing.
 use mathlib.Core.Path.{ap, _∙_}
 use Rattle.boundary.specs.Numbers.{fieldsOf}
-use Rattle.boundary.proofs.ThereAndBack.{there-and-back}
+use Rattle.boundary.proofs.FieldsInverse.{fields-inverse}
 use borrow.Author.Needs.{needs}
 use Rattle.boundary.proofs.cesca_decode.Statement.{statement}
 use Rattle.boundary.proofs.cesca_decode.Tie as tie
@@ -17,5 +17,5 @@ cesca-decode-spec =
     let d = c .before .decode .ensures in
     record {
       table = c .fields .ensures ∙ ap fieldsOf (d .table);
-      writes-back = rw (c .fields .ensures, there-and-back) (d .writes-back);
+      decodes = rw (c .fields .ensures, fields-inverse) d;
     }))

@@ -17,4 +17,11 @@ cesca-put-spec =
     (λ c. search needs)
     (λ c.
     let p = rw (c .before .before .before .before .before .before .before .before .instruction .ensures) at (c .before .before .before .before .before .put .ensures) in
-    record { answers = c .number .ensures ∙ ap numberOf (p .answers); opcodes = p .opcodes; arguments = p .arguments }))
+    let n = c .number .ensures in
+    record {
+      answers = n ∙ ap numberOf (p .answers);
+      opcodes = p .opcodes;
+      arguments = p .arguments;
+      accepted = rw (p .answers) at (p .accepted);
+      checked = rw n (p .checked);
+    }))

@@ -1,5 +1,5 @@
 -- The fields are those of the definition. From 16 on the subtraction takes 1 from the upper four bits and leaves the next two; below 16 the
--- upper four are 0. The way back is a law of the table.
+-- upper four are 0. What holds of every decoded form, and the way back, are laws of the table.
 -- Assumes nothing.
 use mathlib.Core.Path.{_≡_, refl}
 use Prim.Native.Nat.{ℕ, _+_, _-_, _/_, _%_, _<_}
@@ -8,7 +8,7 @@ use Rattle.isa.specs.Decode.{formOf, decodeOf}
 use Rattle.isa.specs.RoundTrip.{Decodes}
 use Rattle.isa.specs.declared.Instr.{Instr}
 use Rattle.isa.specs.declared.Instr.the-variants.{Alu}
-use Rattle.isa.proofs.DecodeEncode.{decode-encode}
+use Rattle.isa.proofs.DecodeEncode.{decoded-valid, decoded-assigned, decode-encode}
 use borrow.Author.Needs.{needs}
 use Rattle.isa.proofs.decoding.decode.Statement.{statement}
 use Rattle.isa.proofs.decoding.decode.Tie as tie
@@ -19,7 +19,13 @@ unfolding formOf
 alu-form d a f b i = refl
 
 decodes : (op arg : ℕ) → op < 256 → arg < 256 → (i : Instr) → i ≡ decodeOf op arg → Decodes op arg i
-decodes op arg h k i t = record { table = t; writes-back = rw t (decode-encode op arg h k) }
+decodes op arg h k i t =
+    record {
+      table = t;
+      assigned = rw t (decoded-assigned op arg h k);
+      valid = rw t (decoded-valid op arg h k);
+      writes-back = rw t (decode-encode op arg h k);
+    }
 
 pub decode-spec : {M : Type 1} → statement M
 unfolding decodeOf

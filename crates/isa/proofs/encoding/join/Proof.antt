@@ -1,6 +1,6 @@
 -- The tests are those of the definition, in its order.
 -- Assumes nothing.
-use mathlib.Core.Path.{_≡_, sym, _∙_}
+use mathlib.Core.Path.{sym, _∙_}
 use Rattle.slices.proofs.Bools.{neither}
 use Rattle.isa.specs.Encode.{joinOf}
 use borrow.Author.Needs.{needs}
