@@ -14,8 +14,8 @@ use Rattle.rules.specs.Grounds.{find, callee, badSuccessor, anyBad, rulesAt, ad
 use Rattle.slices.specs.Checks.{firstBroken}
 use Rattle.rules.specs.Sheet.{listing, word, described, marked, routine, depth, routines, entry, need, classAt}
 use Rattle.rules.specs.Successors.{Successor, successors}
-use Rattle.admission.specs.Parts.{drawnBy, classChecks}
-use Rattle.admission.specs.Words.{wordOf}
+use Rattle.admission.specs.internal.Parts.{withoutBanks, classChecks}
+use Rattle.admission.specs.internal.Words.{wordOf}
 
 module _ (o g s l : List ℕ) (a : ℕ) where
   pub passed-over : wordOf s a .described ≡ false → 0 ≡ firstBroken (addressChecks (listing o g s l) a)
@@ -23,19 +23,19 @@ module _ (o g s l : List ℕ) (a : ℕ) where
   passed-over e = rw (e, firstBroken)
 
   -- the rules look at the banks by the class alone
-  any-aside : (r : ℕ) (xs : List Successor) → anyBad (listing o g s l) r xs ≡ anyBad (drawnBy s l) r xs
+  any-aside : (r : ℕ) (xs : List Successor) → anyBad (listing o g s l) r xs ≡ anyBad (withoutBanks s l) r xs
   unfolding described word marked routine depth
   any-aside r [] = refl
-  any-aside r (x ∷ xs) = ap (λ (b : Bool). badSuccessor (drawnBy s l) r x || b) (any-aside r xs)
+  any-aside r (x ∷ xs) = ap (λ (b : Bool). badSuccessor (withoutBanks s l) r x || b) (any-aside r xs)
 
-  banks-aside : (k : Class) (r d : ℕ) (v : Bool) → firstBroken (rulesAt (listing o g s l) a k r d v) ≡ firstBroken (rulesAt (drawnBy s l) a k r d v)
+  banks-aside : (k : Class) (r d : ℕ) (v : Bool) → firstBroken (rulesAt (listing o g s l) a k r d v) ≡ firstBroken (rulesAt (withoutBanks s l) a k r d v)
   unfolding firstBroken callee routines entry need
   banks-aside k r d v = rw (any-aside r (successors k a d v))
 
   -- 8, and what is left of the rules
   split : (k : Class) (r d : ℕ) (v : Bool)
-      → cond (ltb (getD l (2 * r + 1) 0) d) (8 + 256 * a) (firstBroken (classChecks (drawnBy s l) a k r d v))
-      ≡ firstBroken (rulesAt (drawnBy s l) a k r d v)
+      → cond (ltb (getD l (2 * r + 1) 0) d) (8 + 256 * a) (firstBroken (classChecks (withoutBanks s l) a k r d v))
+      ≡ firstBroken (rulesAt (withoutBanks s l) a k r d v)
   unfolding firstBroken need
   split k r d v = refl
 
@@ -49,7 +49,7 @@ module _ (o g s l : List ℕ) (a : ℕ) where
       → wordOf s a .described ≡ true
       → k ≡ classOf (decodeOf (getD o a 0) (getD g a 0))
       → cond (ltb (getD l (2 * wordOf s a .routine + 1) 0) (wordOf s a .depth)) (8 + 256 * a)
-      (firstBroken (classChecks (drawnBy s l) a k (wordOf s a .routine) (wordOf s a .depth) (wordOf s a .marked)))
+      (firstBroken (classChecks (withoutBanks s l) a k (wordOf s a .routine) (wordOf s a .depth) (wordOf s a .marked)))
       ≡ firstBroken (addressChecks (listing o g s l) a)
   unfolding described word marked routine depth wordOf instrAt
   judged k e q =

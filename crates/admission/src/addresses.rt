@@ -21,7 +21,7 @@ ghost use Rattle.rules.specs.Grounds.{addressChecks};
 ghost use Rattle.slices.specs.Checks.{firstBroken};
 ghost use Rattle.rules.specs.Sheet.{listing};
 ghost use Rattle.rules.specs.Successors.{markAfter};
-ghost use Rattle.admission.specs.Parts.{drawnBy, classChecks, Entered};
+ghost use Rattle.admission.specs.internal.Parts.{withoutBanks, classChecks, EntriesFit};
 
 // Whether V may be marked after an instruction.
 fn mark_after(effect: OverflowEffect, marked: bool) -> bool
@@ -35,15 +35,15 @@ fn mark_after(effect: OverflowEffect, marked: bool) -> bool
 }
 
 // A depth less one, or 0.
-fn less_one(depth: u8) -> u16
+fn one_less(depth: u8) -> u16
     ensures { λ r. ⌜ r ≡ depth - 1 ⌝ }
 {
     if 0 < depth { wide(depth) - 1 } else { 0 }
 }
 
 // 9 to 16 where the next word is the one successor, at this depth and with V marked or not.
-fn onward_ground(sheet: &[u8], a: u8, routine: u8, deep: u16, mark: bool) -> u32
-    ensures { λ r. ⌜ r ≡ firstBroken (classChecks (drawnBy (now (sheet .entry)) []) a (Next Keeps) routine deep mark) ⌝ }
+fn next_word_ground(sheet: &[u8], a: u8, routine: u8, deep: u16, mark: bool) -> u32
+    ensures { λ r. ⌜ r ≡ firstBroken (classChecks (withoutBanks (now (sheet .entry)) []) a (Next Keeps) routine deep mark) ⌝ }
 {
     let next = wrapping_add_u8(a, 1);
     let bad = bad_successor(sheet, next, routine, deep, mark);
@@ -60,7 +60,7 @@ fn branch_ground(
     depth: u8,
     marked: bool,
 ) -> u32
-    ensures { λ r. ⌜ r ≡ firstBroken (classChecks (drawnBy (now (sheet .entry)) []) a (Branch target tests) routine depth marked) ⌝ }
+    ensures { λ r. ⌜ r ≡ firstBroken (classChecks (withoutBanks (now (sheet .entry)) []) a (Branch target tests) routine depth marked) ⌝ }
 {
     let deep = wide(depth);
     let jumped = bad_successor(sheet, target, routine, deep, marked);
@@ -79,8 +79,8 @@ fn is_entry(list: &[u8], routine: u8, entry: u8) -> bool
 // 9 to 16 at a call. Entries have their own routine's word (7), so the target's word names the
 // callee.
 fn call_ground(sheet: &[u8], list: &[u8], a: u8, target: u8, routine: u8, depth: u8) -> u32
-    requires { ⌜ Entered (drawnBy (now sheet) (now list)) ⌝ }
-    ensures { λ r. ⌜ r ≡ firstBroken (classChecks (drawnBy (now (sheet .entry)) (now (list .entry))) a (Call target) routine depth false) ⌝ }
+    requires { ⌜ EntriesFit (withoutBanks (now sheet) (now list)) ⌝ }
+    ensures { λ r. ⌜ r ≡ firstBroken (classChecks (withoutBanks (now (sheet .entry)) (now (list .entry))) a (Call target) routine depth false) ⌝ }
 {
     let w = word_at(sheet, target);
     let callee = w.routine;
@@ -107,12 +107,12 @@ fn class_ground(
     depth: u8,
     marked: bool,
 ) -> u32
-    requires { ⌜ Entered (drawnBy (now sheet) (now list)) ⌝ }
-    ensures { λ r. ⌜ r ≡ firstBroken (classChecks (drawnBy (now (sheet .entry)) (now (list .entry))) a class routine depth marked) ⌝ }
+    requires { ⌜ EntriesFit (withoutBanks (now sheet) (now list)) ⌝ }
+    ensures { λ r. ⌜ r ≡ firstBroken (classChecks (withoutBanks (now (sheet .entry)) (now (list .entry))) a class routine depth marked) ⌝ }
 {
     match class {
         Class::Next(effect) => {
-            onward_ground(sheet, a, routine, wide(depth), mark_after(effect, marked))
+            next_word_ground(sheet, a, routine, wide(depth), mark_after(effect, marked))
         }
         Class::Jump(target) => {
             first(
@@ -128,13 +128,13 @@ fn class_ground(
         Class::JumpReg => first(true, 9, a, 0),
         Class::Call(target) => call_ground(sheet, list, a, target, routine, depth),
         Class::Return => first((routine == 0) | (0 < depth), 12, a, 0),
-        Class::Push(_) => onward_ground(sheet, a, routine, wide(depth) + 1, marked),
+        Class::Push(_) => next_word_ground(sheet, a, routine, wide(depth) + 1, marked),
         Class::Pop => {
-            let rest = onward_ground(sheet, a, routine, less_one(depth), marked);
+            let rest = next_word_ground(sheet, a, routine, one_less(depth), marked);
             first(depth == 0, 11, a, rest)
         }
         Class::Swap(_) => {
-            let rest = onward_ground(sheet, a, routine, wide(depth), marked);
+            let rest = next_word_ground(sheet, a, routine, wide(depth), marked);
             first(depth == 0, 11, a, rest)
         }
         Class::Halt => 0,
@@ -143,7 +143,7 @@ fn class_ground(
 
 // The first of 8 to 16 that a described address breaks, or 0.
 pub fn address_ground(opcodes: &[u8], arguments: &[u8], sheet: &[u8], list: &[u8], a: u8) -> u32
-    requires { ⌜ Entered (drawnBy (now sheet) (now list)) ⌝ }
+    requires { ⌜ EntriesFit (withoutBanks (now sheet) (now list)) ⌝ }
     ensures { λ r. ⌜ r ≡ firstBroken (addressChecks (listing (now (opcodes .entry)) (now (arguments .entry)) (now (sheet .entry)) (now (list .entry))) a) ⌝ }
 {
     let w = word_at(sheet, a);

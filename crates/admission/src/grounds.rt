@@ -6,8 +6,8 @@ ghost use Prim.Native.Nat.{_+_, _*_};
 ghost use mathlib.Core.Path.{_≡_};
 ghost use mathlib.Core.Bool.{cond};
 ghost use lib.ListN.{getD};
-ghost use Rattle.admission.specs.Words.{wordOf};
-ghost use Rattle.admission.specs.Tests.{badBlankWord, badRoutineWord, badEntryWord, badWord};
+ghost use Rattle.admission.specs.internal.Words.{wordOf};
+ghost use Rattle.admission.specs.internal.Tests.{badBlankWord, badRoutineWord, badEntryWord, badWord};
 
 // A broken rule's number and place, or what the rules after it answer.
 pub fn first(broken: bool, number: u8, place: u8, rest: u32) -> u32

@@ -3,7 +3,7 @@ use slices::byte_at;
 ghost use Prim.Native.Nat.{_+_, _*_};
 ghost use mathlib.Core.Path.{_≡_};
 ghost use lib.ListN.{getD};
-ghost use Rattle.admission.specs.Words.{partsOf, wordOf};
+ghost use Rattle.admission.specs.internal.Words.{partsOf, wordOf};
 
 // A sheet word's parts, and whether it is 0.
 pub struct Word {
