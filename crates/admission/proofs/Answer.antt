@@ -24,7 +24,7 @@ use Rattle.admission.specs.Admission.{Admission}
 use Rattle.admission.specs.declared.scans.Stage.{Stage}
 use Rattle.admission.specs.declared.scans.Stage.the-variants.{Blanks, Routines, Entries, Addresses}
 use Rattle.admission.specs.internal.Parts.{EntriesFit}
-use Rattle.admission.specs.internal.Stages.{stageChecks, stagePlaces, StageReady, stageOf, sizesOf, startOf, stagesOf}
+use Rattle.admission.specs.internal.Stages.{stageChecks, stagePlaces, StageReady, stageOf, sizesOf, startOf, scansOf, stagesOf}
 
 -- places are bytes
 pub few-places : (s : Stage) (L : Listing) → StageReady s L → stagePlaces s (routines L) ≤ 256
@@ -75,7 +75,7 @@ module _ (L : Listing) where
       ap₂ orElse (stage-each s) e ∙ first-append (eachOf s) cs (numbered-each (stageChecks s L) (numbered-stage s) 0 (stagePlaces s (routines L)))
 
   stages-agree : stagesOf L ≡ admitOf L
-  unfolding stagesOf admitOf checks
+  unfolding stagesOf scansOf admitOf checks
   stages-agree =
       let e7 = stage-then Entries _ (stage-each Addresses) in
       let e6 = ap (orElse (startOf L)) e7 ∙ first-append (check 6 0 (badStart L) ∷ []) _ (omega arith, tt) in

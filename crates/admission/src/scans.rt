@@ -6,10 +6,12 @@ use super::grounds::first;
 use super::grounds::routine_ground;
 use super::sheet::entry_of;
 use slices::BANK_SIZE;
+ghost use Prim.Native.Nat.{_≤_};
 ghost use mathlib.Core.Path.{_≡_};
+ghost use lib.ListN.{length};
 ghost use Rattle.rules.specs.Sheet.{listing};
 ghost use Rattle.slices.specs.Checks.{firstBroken};
-ghost use Rattle.admission.specs.internal.Stages.{stageChecks, stagePlaces, StageReady, stageOf, sizesOf, stagesOf};
+ghost use Rattle.admission.specs.internal.Stages.{stageChecks, stagePlaces, StageReady, stageOf, sizesOf, scansOf, stagesOf};
 
 // The bytes of a stack sheet: a word for each address.
 const SHEET_SIZE: usize = 512;
@@ -91,21 +93,18 @@ fn scan(stage: Stage, opcodes: &[u8], arguments: &[u8], sheet: &[u8], list: &[u8
     0
 }
 
-// The first ground that a listing gives, with its place, or 0.
-pub fn admit(opcodes: &[u8], arguments: &[u8], sheet: &[u8], list: &[u8]) -> u32
-    ensures { λ r. ⌜ r ≡ stagesOf (listing (now (opcodes .entry)) (now (arguments .entry)) (now (sheet .entry)) (now (list .entry))) ⌝ }
+// The first of 4 to 16 that a listing gives, with its place, or 0.
+fn scans(opcodes: &[u8], arguments: &[u8], sheet: &[u8], list: &[u8]) -> u32
+    requires { ⌜ length (now list) ≤ 128 ⌝ }
+    ensures { λ r. ⌜ r ≡ scansOf (listing (now (opcodes .entry)) (now (arguments .entry)) (now (sheet .entry)) (now (list .entry))) ⌝ }
 {
-    let lengths = sizes(opcodes, arguments, sheet, list);
-    if lengths != 0 {
-        return lengths;
-    }
     let blanks = scan(Stage::Blanks, opcodes, arguments, sheet, list);
     if blanks != 0 {
         return blanks;
     }
-    let names = scan(Stage::Routines, opcodes, arguments, sheet, list);
-    if names != 0 {
-        return names;
+    let routines = scan(Stage::Routines, opcodes, arguments, sheet, list);
+    if routines != 0 {
+        return routines;
     }
     let start = first(entry_of(list, 0) != 0, 6, 0, 0);
     if start != 0 {
@@ -116,4 +115,17 @@ pub fn admit(opcodes: &[u8], arguments: &[u8], sheet: &[u8], list: &[u8]) -> u32
         return entries;
     }
     scan(Stage::Addresses, opcodes, arguments, sheet, list)
+}
+
+// The first ground that a listing gives, with its place, or 0.
+pub fn admit(opcodes: &[u8], arguments: &[u8], sheet: &[u8], list: &[u8]) -> u32
+    ensures { λ r. ⌜ r ≡ stagesOf (listing (now (opcodes .entry)) (now (arguments .entry)) (now (sheet .entry)) (now (list .entry))) ⌝ }
+{
+    let lengths = sizes(opcodes, arguments, sheet, list);
+    if lengths != 0 {
+        return lengths;
+    }
+    // Slices made here need no place in memory before: a listing refused by 1, 2 or 3 is answered
+    // without one store.
+    scans(&opcodes[..], &arguments[..], &sheet[..], &list[..])
 }

@@ -42,8 +42,10 @@ sizesOf L = firstBroken (check 1 0 (badBanks L) ∷ check 2 0 (badSheet L) ∷ c
 abbrev pub startOf : Listing → ℕ
 startOf L = firstBroken (check 6 0 (badStart L) ∷ [])
 
+unfoldable pub scansOf : Listing → ℕ
+scansOf L =
+    orElse (stageOf Blanks L)
+    (orElse (stageOf Routines L) (orElse (startOf L) (orElse (stageOf Entries L) (stageOf Addresses L))))
+
 unfoldable pub stagesOf : Listing → ℕ
-stagesOf L =
-    orElse (sizesOf L)
-    (orElse (stageOf Blanks L)
-    (orElse (stageOf Routines L) (orElse (startOf L) (orElse (stageOf Entries L) (stageOf Addresses L)))))
+stagesOf L = orElse (sizesOf L) (scansOf L)
