@@ -34,7 +34,7 @@ fn mark_after(effect: OverflowEffect, marked: bool) -> bool
     }
 }
 
-// A depth less one, or 0.
+// One less than a depth, or 0.
 fn one_less(depth: u8) -> u16
     ensures { λ r. ⌜ r ≡ depth - 1 ⌝ }
 {
@@ -42,11 +42,11 @@ fn one_less(depth: u8) -> u16
 }
 
 // 9 to 16 where the next word is the one successor, at this depth and with V marked or not.
-fn next_word_ground(sheet: &[u8], a: u8, routine: u8, deep: u16, mark: bool) -> u32
-    ensures { λ r. ⌜ r ≡ firstBroken (classChecks (withoutBanks (now (sheet .entry)) []) a (Next Keeps) routine deep mark) ⌝ }
+fn next_word_ground(sheet: &[u8], a: u8, routine: u8, depth: u16, mark: bool) -> u32
+    ensures { λ r. ⌜ r ≡ firstBroken (classChecks (withoutBanks (now (sheet .entry)) []) a (Next Keeps) routine depth mark) ⌝ }
 {
     let next = wrapping_add_u8(a, 1);
-    let bad = bad_successor(sheet, next, routine, deep, mark);
+    let bad = bad_successor(sheet, next, routine, depth, mark);
     first(a == 255, 13, a, first(bad, 16, a, 0))
 }
 
@@ -62,10 +62,10 @@ fn branch_ground(
 ) -> u32
     ensures { λ r. ⌜ r ≡ firstBroken (classChecks (withoutBanks (now (sheet .entry)) []) a (Branch target tests) routine depth marked) ⌝ }
 {
-    let deep = wide(depth);
-    let jumped = bad_successor(sheet, target, routine, deep, marked);
-    let passed = bad_successor(sheet, wrapping_add_u8(a, 1), routine, deep, marked);
-    let rest = first(a == 255, 13, a, first(jumped | passed, 16, a, 0));
+    let kept = wide(depth);
+    let bad_target = bad_successor(sheet, target, routine, kept, marked);
+    let bad_next = bad_successor(sheet, wrapping_add_u8(a, 1), routine, kept, marked);
+    let rest = first(a == 255, 13, a, first(bad_target | bad_next, 16, a, 0));
     first(tests & !marked, 10, a, rest)
 }
 
@@ -85,10 +85,10 @@ fn call_ground(sheet: &[u8], list: &[u8], a: u8, target: u8, routine: u8, depth:
     let w = word_at(sheet, target);
     let callee = w.routine;
     let need = wide(need_of(list, routine));
-    let held = wide(depth) + 1;
-    let within = held + wide(need_of(list, callee));
+    let with_return = wide(depth) + 1;
+    let total = with_return + wide(need_of(list, callee));
     let bad = bad_successor(sheet, wrapping_add_u8(a, 1), routine, wide(depth), false);
-    let after = first(need < within, 15, a, first(bad, 16, a, 0));
+    let after = first(need < total, 15, a, first(bad, 16, a, 0));
     first(
         a == 255,
         13,
@@ -130,12 +130,12 @@ fn class_ground(
         Class::Return => first((routine == 0) | (0 < depth), 12, a, 0),
         Class::Push(_) => next_word_ground(sheet, a, routine, wide(depth) + 1, marked),
         Class::Pop => {
-            let rest = next_word_ground(sheet, a, routine, one_less(depth), marked);
-            first(depth == 0, 11, a, rest)
+            let after_pop = next_word_ground(sheet, a, routine, one_less(depth), marked);
+            first(depth == 0, 11, a, after_pop)
         }
         Class::Swap(_) => {
-            let rest = next_word_ground(sheet, a, routine, wide(depth), marked);
-            first(depth == 0, 11, a, rest)
+            let after_swap = next_word_ground(sheet, a, routine, wide(depth), marked);
+            first(depth == 0, 11, a, after_swap)
         }
         Class::Halt => 0,
     }

@@ -1,4 +1,5 @@
-// The stages of admission: lengths, then scans of places, lowest first.
+// The stages of admission: lengths, then scans of places, lowest first. A ground (01) is a rule that a
+// listing breaks; a place is an address or a routine.
 use super::addresses::address_ground;
 use super::grounds::blank_ground;
 use super::grounds::entry_ground;

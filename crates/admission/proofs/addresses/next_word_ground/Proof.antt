@@ -13,4 +13,4 @@ next-word-ground-spec =
     (λ c κs. search needs)
     (λ c κs. search needs)
     (λ c κs. search needs)
-    (λ c. rw (c .first2 .ensures, c .before .first .ensures, c .before .before .bad-successor .ensures, c .before .before .before .wrapping-add-u8 .ensures) (let a = c .before .before .before .before .before .args in next-word (a .sheet .now) (a .a) (a .routine) (a .deep) (a .mark))))
+    (λ c. rw (c .first2 .ensures, c .before .first .ensures, c .before .before .bad-successor .ensures, c .before .before .before .wrapping-add-u8 .ensures) (let a = c .before .before .before .before .before .args in next-word (a .sheet .now) (a .a) (a .routine) (a .depth) (a .mark))))
