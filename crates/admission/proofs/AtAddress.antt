@@ -10,7 +10,7 @@ use Rattle.isa.specs.Decode.{decodeOf}
 use Rattle.isa.specs.Facts.{classOf}
 use Rattle.isa.specs.declared.Class.{Class}
 use Rattle.model.specs.Step.{instrAt}
-use Rattle.rules.specs.Grounds.{find, callee, badSuccessor, anyBad, rulesAt, addressChecks}
+use Rattle.rules.specs.Grounds.{callee, badSuccessor, anyBad, rulesAt, addressChecks}
 use Rattle.slices.specs.Checks.{firstBroken}
 use Rattle.rules.specs.Sheet.{listing, word, described, marked, routine, depth, routines, entry, need, classAt}
 use Rattle.rules.specs.Successors.{Successor, successors}

@@ -1,9 +1,9 @@
 -- The rules 9 to 16 by class, in the tests that the code makes.
 -- Assumes nothing.
 use Prim.Native.Nat.{ℕ, _+_, _-_, _*_, _%_}
-use mathlib.Core.Path.{_≡_, refl}
+use mathlib.Core.Path.{_≡_}
 use mathlib.Core.List.{List, []}
-use mathlib.Core.Bool.{Bool, true, false, not, cond, _&&_, _||_, and-true, and-false, or-false}
+use mathlib.Core.Bool.{Bool, not, cond, _&&_, _||_, and-true, and-false, or-false}
 use lib.Dec.{eqb, ltb}
 use Rattle.isa.specs.declared.Class.the-variants as class
 use Rattle.isa.specs.declared.OverflowEffect.the-variants.{Keeps}

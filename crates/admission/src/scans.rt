@@ -21,7 +21,7 @@ const SHEET_SIZE: usize = 512;
 const LIST_LIMIT: usize = 128;
 
 // The rules that are judged at one place after another: 4, 5, 7, and 8 to 16.
-pub enum Stage {
+enum Stage {
     Blanks,
     Routines,
     Entries,
