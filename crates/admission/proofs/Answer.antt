@@ -11,6 +11,7 @@ use borrow.Author.Tests.{ltb-false}
 use Rattle.slices.proofs.Bools.{neither}
 use Rattle.slices.proofs.Checks.{Numbered, none-broken}
 use Rattle.slices.specs.Checks.{Check, check, firstBroken}
+use Rattle.slices.specs.Sizes.{bankSize}
 use Rattle.rules.specs.Demand.{Bytes}
 use Rattle.rules.specs.Grounds.{each, badBanks, badSheet, badList, badBlank, badRoutine, badStart, badEntry, checks, admitOf}
 use Rattle.rules.specs.Sheet.{Listing, routines, entry}
@@ -27,11 +28,10 @@ use Rattle.admission.specs.internal.Parts.{EntriesFit}
 use Rattle.admission.specs.internal.Stages.{stageChecks, stagePlaces, StageReady, stageOf, sizesOf, startOf, scansOf, stagesOf}
 
 -- places are bytes
-pub few-places : (s : Stage) (L : Listing) → StageReady s L → stagePlaces s (routines L) ≤ 256
-unfolding routines
+pub few-places : (s : Stage) (L : Listing) → StageReady s L → stagePlaces s (routines L) ≤ bankSize
 few-places Blanks L ready = omega arith
 few-places Routines L ready = omega arith
-few-places Entries L ready = omega arith
+few-places Entries L ready = ready
 few-places Addresses L ready = omega arith
 
 module _ (L : Listing) where
@@ -41,11 +41,13 @@ module _ (L : Listing) where
   numbered-sizes : Numbered sizeChecks
   numbered-sizes = (omega arith, (omega arith, (omega arith, tt)))
 
-  pub list-short : sizesOf L ≡ 0 → length (L .list) ≤ 128
-  list-short e =
+  pub few-routines : sizesOf L ≡ 0 → routines L ≤ bankSize
+  unfolding routines
+  few-routines e =
       let n = none-broken sizeChecks numbered-sizes e in
       let odd = neither (eqb (length (L .list) % 2) 1) _ (n .1 .1 .0) in
-      ltb-false 128 (length (L .list)) (neither (eqb (length (L .list)) 0) _ (odd .1) .1)
+      let short = ltb-false _ (length (L .list)) (neither (eqb (length (L .list)) 0) _ (odd .1) .1) in
+      omega (arith, short)
 
   -- the test of 6, where n was read as routine 0's entry
   pub start-tested : (n : ℕ) → n ≡ entry L 0 → cond (not (eqb n 0)) 6 0 ≡ startOf L

@@ -1,5 +1,5 @@
-// The stages of admission: lengths, then scans of places, lowest first. A ground (01) is a rule that a
-// listing breaks; a place is an address or a routine.
+// The stages of admission: lengths, then scans of places, lowest first. In 01's words a ground is a
+// rule that a listing breaks, and its place an address or a routine.
 use super::addresses::address_ground;
 use super::grounds::blank_ground;
 use super::grounds::entry_ground;
@@ -7,11 +7,10 @@ use super::grounds::first;
 use super::grounds::routine_ground;
 use super::sheet::entry_of;
 use slices::BANK_SIZE;
-ghost use Prim.Native.Nat.{_≤_};
 ghost use mathlib.Core.Path.{_≡_};
-ghost use lib.ListN.{length};
 ghost use Rattle.rules.specs.Sheet.{listing};
 ghost use Rattle.slices.specs.Checks.{firstBroken};
+ghost use Rattle.admission.specs.declared.scans.Stage.the-variants.{Entries};
 ghost use Rattle.admission.specs.internal.Stages.{stageChecks, stagePlaces, StageReady, stageOf, sizesOf, scansOf, stagesOf};
 
 // The bytes of a stack sheet: a word for each address.
@@ -96,7 +95,7 @@ fn scan(stage: Stage, opcodes: &[u8], arguments: &[u8], sheet: &[u8], list: &[u8
 
 // The first of 4 to 16 that a listing gives, with its place, or 0.
 fn scans(opcodes: &[u8], arguments: &[u8], sheet: &[u8], list: &[u8]) -> u32
-    requires { ⌜ length (now list) ≤ 128 ⌝ }
+    requires { ⌜ StageReady Entries (listing (now opcodes) (now arguments) (now sheet) (now list)) ⌝ }
     ensures { λ r. ⌜ r ≡ scansOf (listing (now (opcodes .entry)) (now (arguments .entry)) (now (sheet .entry)) (now (list .entry))) ⌝ }
 {
     let blanks = scan(Stage::Blanks, opcodes, arguments, sheet, list);

@@ -2,7 +2,6 @@
 -- Assumes nothing.
 use Prim.Native.Nat.{ℕ, _≤_}
 use mathlib.Core.List.{List, [], _∷_}
-use lib.ListN.{length}
 use Rattle.rules.specs.Grounds.{badBanks, badSheet, badList, badBlank, badRoutine, badStart, badEntry, addressChecks}
 use Rattle.rules.specs.Sheet.{Listing, routines}
 use Rattle.rules.specs.internal.Scans.{orElse, scanOf}
@@ -26,11 +25,11 @@ stagePlaces Routines n = bankSize
 stagePlaces Entries n = n
 stagePlaces Addresses n = bankSize
 
--- what the stages before it have shown, as far as it needs that
+-- what the stages before it have shown, as far as it needs that: a routine's number is a byte (3); 7 holds
 abbrev pub StageReady : Stage → Listing → Type 0
 StageReady Blanks L = Unit {0}
 StageReady Routines L = Unit {0}
-StageReady Entries L = length (L .list) ≤ 128
+StageReady Entries L = routines L ≤ bankSize
 StageReady Addresses L = EntriesFit L
 
 abbrev pub stageOf : Stage → Listing → ℕ

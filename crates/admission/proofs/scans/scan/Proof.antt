@@ -5,6 +5,7 @@ use borrow.Author.Needs.{needs}
 use native.Mathlib.Omega.{arith}
 use Rattle.rules.proofs.Scanning.{Scanning, scan-start, scan-hit, scan-pass, scan-end}
 use Rattle.rules.specs.Sheet.{listing, routines}
+use Rattle.slices.specs.Sizes.{bankSize}
 use Rattle.admission.specs.internal.Stages.{stageChecks}
 use Rattle.admission.proofs.Answer.{few-places}
 use Rattle.admission.proofs.scans.scan.Statement.{statement}
@@ -28,7 +29,7 @@ scan-spec =
     (λ c.
     let a = c .before .before .before .before .before .before .before .args in
     let L = listing (a .opcodes .now) (a .arguments .now) (a .sheet .now) (a .list .now) in
-    let few : c .before .before .places .result ≤ 256 = rw (c .before .before .places .ensures) (few-places (a .stage) L (c .before .before .before .before .before .before .before .pre)) in
+    let few : c .before .before .places .result ≤ bankSize = rw (c .before .before .places .ensures) (few-places (a .stage) L (c .before .before .before .before .before .before .before .pre)) in
     omega (arith, few, c .loop-test .taken))
     (λ c κs. search needs)
     (λ c.
