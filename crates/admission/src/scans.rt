@@ -125,7 +125,5 @@ pub fn admit(opcodes: &[u8], arguments: &[u8], sheet: &[u8], list: &[u8]) -> u32
     if lengths != 0 {
         return lengths;
     }
-    // Slices made here need no place in memory before: a listing refused by 1, 2 or 3 is answered
-    // without one store.
-    scans(&opcodes[..], &arguments[..], &sheet[..], &list[..])
+    scans(opcodes, arguments, sheet, list)
 }
