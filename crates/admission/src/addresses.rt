@@ -115,12 +115,8 @@ fn class_ground(
             next_word_ground(sheet, a, routine, wide(depth), mark_after(effect, marked))
         }
         Class::Jump(target) => {
-            first(
-                bad_successor(sheet, target, routine, wide(depth), marked),
-                16,
-                a,
-                0,
-            )
+            let bad_target = bad_successor(sheet, target, routine, wide(depth), marked);
+            first(bad_target, 16, a, 0)
         }
         Class::Branch(target, tests) => {
             branch_ground(sheet, a, target, tests, routine, depth, marked)

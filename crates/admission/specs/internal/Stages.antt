@@ -32,19 +32,24 @@ StageReady Routines L = Unit {0}
 StageReady Entries L = routines L ≤ bankSize
 StageReady Addresses L = EntriesFit L
 
+-- the first rule of a stage that is broken, at the lowest place
 abbrev pub stageOf : Stage → Listing → ℕ
 stageOf s L = scanOf (stageChecks s L) 0 (stagePlaces s (routines L))
 
+-- 1 to 3
 abbrev pub sizesOf : Listing → ℕ
 sizesOf L = firstBroken (check 1 0 (badBanks L) ∷ check 2 0 (badSheet L) ∷ check 3 0 (badList L) ∷ [])
 
+-- 6
 abbrev pub startOf : Listing → ℕ
 startOf L = firstBroken (check 6 0 (badStart L) ∷ [])
 
+-- 4 to 16
 unfoldable pub scansOf : Listing → ℕ
 scansOf L =
     orElse (stageOf Blanks L)
     (orElse (stageOf Routines L) (orElse (startOf L) (orElse (stageOf Entries L) (stageOf Addresses L))))
 
+-- 1 to 16
 unfoldable pub stagesOf : Listing → ℕ
 stagesOf L = orElse (sizesOf L) (scansOf L)
