@@ -10,48 +10,48 @@ use Rattle.isa.specs.Decode.{decodeOf}
 use Rattle.isa.specs.Facts.{classOf}
 use Rattle.isa.specs.declared.Class.{Class}
 use Rattle.model.specs.Step.{instrAt}
-use Rattle.rules.specs.Grounds.{find, callee, badSuccessor, anyBad, rulesAt, addressChecks}
+use Rattle.rules.specs.Grounds.{callee, badSuccessor, anyBad, rulesAt, addressChecks}
 use Rattle.slices.specs.Checks.{firstBroken}
 use Rattle.rules.specs.Sheet.{listing, word, described, marked, routine, depth, routines, entry, need, classAt}
 use Rattle.rules.specs.Successors.{Successor, successors}
-use Rattle.admission.specs.Parts.{drawnBy, classChecks}
-use Rattle.admission.specs.Words.{wordOf}
+use Rattle.admission.specs.internal.Parts.{withoutBanks, classChecks}
+use Rattle.admission.specs.internal.Words.{wordOf}
 
 module _ (o g s l : List ℕ) (a : ℕ) where
-  pub passed-over : wordOf s a .described ≡ false → 0 ≡ firstBroken (addressChecks (listing o g s l) a)
+  pub undescribed-answer : wordOf s a .described ≡ false → 0 ≡ firstBroken (addressChecks (listing o g s l) a)
   unfolding firstBroken addressChecks described word wordOf
-  passed-over e = rw (e, firstBroken)
+  undescribed-answer e = rw (e, firstBroken)
 
   -- the rules look at the banks by the class alone
-  any-aside : (r : ℕ) (xs : List Successor) → anyBad (listing o g s l) r xs ≡ anyBad (drawnBy s l) r xs
+  successors-without-banks : (r : ℕ) (xs : List Successor) → anyBad (listing o g s l) r xs ≡ anyBad (withoutBanks s l) r xs
   unfolding described word marked routine depth
-  any-aside r [] = refl
-  any-aside r (x ∷ xs) = ap (λ (b : Bool). badSuccessor (drawnBy s l) r x || b) (any-aside r xs)
+  successors-without-banks r [] = refl
+  successors-without-banks r (x ∷ xs) = ap (λ (b : Bool). badSuccessor (withoutBanks s l) r x || b) (successors-without-banks r xs)
 
-  banks-aside : (k : Class) (r d : ℕ) (v : Bool) → firstBroken (rulesAt (listing o g s l) a k r d v) ≡ firstBroken (rulesAt (drawnBy s l) a k r d v)
+  rules-without-banks : (k : Class) (r d : ℕ) (v : Bool) → firstBroken (rulesAt (listing o g s l) a k r d v) ≡ firstBroken (rulesAt (withoutBanks s l) a k r d v)
   unfolding firstBroken callee routines entry need
-  banks-aside k r d v = rw (any-aside r (successors k a d v))
+  rules-without-banks k r d v = rw (successors-without-banks r (successors k a d v))
 
   -- 8, and what is left of the rules
-  split : (k : Class) (r d : ℕ) (v : Bool)
-      → cond (ltb (getD l (2 * r + 1) 0) d) (8 + 256 * a) (firstBroken (classChecks (drawnBy s l) a k r d v))
-      ≡ firstBroken (rulesAt (drawnBy s l) a k r d v)
+  need-first : (k : Class) (r d : ℕ) (v : Bool)
+      → cond (ltb (getD l (2 * r + 1) 0) d) (8 + 256 * a) (firstBroken (classChecks (withoutBanks s l) a k r d v))
+      ≡ firstBroken (rulesAt (withoutBanks s l) a k r d v)
   unfolding firstBroken need
-  split k r d v = refl
+  need-first k r d v = refl
 
-  opened : (k : Class) → described (listing o g s l) a ≡ true → k ≡ classAt (listing o g s l) a
+  rules-of-described : (k : Class) → described (listing o g s l) a ≡ true → k ≡ classAt (listing o g s l) a
       → firstBroken (rulesAt (listing o g s l) a k (routine (listing o g s l) a) (depth (listing o g s l) a) (marked (listing o g s l) a))
       ≡ firstBroken (addressChecks (listing o g s l) a)
   unfolding addressChecks
-  opened k e q = rw (e, q)
+  rules-of-described k e q = rw (e, q)
 
-  pub judged : (k : Class)
+  pub described-answer : (k : Class)
       → wordOf s a .described ≡ true
       → k ≡ classOf (decodeOf (getD o a 0) (getD g a 0))
       → cond (ltb (getD l (2 * wordOf s a .routine + 1) 0) (wordOf s a .depth)) (8 + 256 * a)
-      (firstBroken (classChecks (drawnBy s l) a k (wordOf s a .routine) (wordOf s a .depth) (wordOf s a .marked)))
+      (firstBroken (classChecks (withoutBanks s l) a k (wordOf s a .routine) (wordOf s a .depth) (wordOf s a .marked)))
       ≡ firstBroken (addressChecks (listing o g s l) a)
   unfolding described word marked routine depth wordOf instrAt
-  judged k e q =
+  described-answer k e q =
       let w = wordOf s a in
-      split k (w .routine) (w .depth) (w .marked) ∙ sym (banks-aside k (w .routine) (w .depth) (w .marked)) ∙ opened k e q
+      need-first k (w .routine) (w .depth) (w .marked) ∙ sym (rules-without-banks k (w .routine) (w .depth) (w .marked)) ∙ rules-of-described k e q

@@ -6,7 +6,7 @@ use native.Mathlib.Nat.{zero-add}
 use lib.Arith.{lt-of-le-ne}
 use mathlib.Core.Path.{_≡_, refl, sym, ap, _∙_}
 use mathlib.Core.List.{List}
-use mathlib.Core.Bool.{Bool, true, false, not, cond, _&&_, _||_}
+use mathlib.Core.Bool.{Bool, true, false, not, cond, _&&_, and-true, or-false}
 use lib.ListN.{length, getD}
 use lib.Dec.{eqb, ltb}
 use borrow.Author.Tests.{eqb-true, eq-eqb, ne-eqb, lt-ltb, ltb-true}
@@ -18,10 +18,10 @@ use Rattle.slices.specs.Checks.{firstBroken}
 use Rattle.rules.specs.Sheet.{Listing, word, described, marked, routine, depth, routines, entry, need}
 use Rattle.rules.specs.Successors.{successor}
 use Rattle.rules.proofs.AdmittedRules.{entry-of}
-use Rattle.rules.proofs.Tests.{absurd-bool, and-on, or-off}
-use Rattle.admission.specs.Parts.{drawnBy, classChecks, Entered}
-use Rattle.admission.specs.Tests.{badWord}
-use Rattle.admission.specs.Words.{wordOf}
+use Rattle.rules.proofs.Tests.{absurd-bool}
+use Rattle.admission.specs.internal.Parts.{withoutBanks, classChecks, EntriesFit}
+use Rattle.admission.specs.internal.Tests.{badWord}
+use Rattle.admission.specs.internal.Words.{wordOf}
 
 -- ---- a search, where at most one number passes
 
@@ -43,56 +43,56 @@ find-none f (suc n) i none =
 
 -- ---- the callee
 
-module _ (L : Listing) (entered : Entered L) (t : ℕ) where
+module _ (L : Listing) (fit : EntriesFit L) (t : ℕ) where
   -- whether the routine that the word at t names is listed with the entry t
-  abbrev pub known : Bool
-  known = ltb (routine L t) (routines L) && eqb (entry L (routine L t)) t
+  abbrev pub is-entry : Bool
+  is-entry = ltb (routine L t) (routines L) && eqb (entry L (routine L t)) t
 
   -- a listed routine with the entry t is the one that the word at t names
-  named-there : (r : ℕ) → r < routines L → eqb (entry L r) t ≡ true → r ≡ routine L t
-  named-there r h e = sym (entry-of L r (entered r h) .its-own) ∙ ap (routine L) (eqb-true (entry L r) t e)
+  entry-named : (r : ℕ) → r < routines L → eqb (entry L r) t ≡ true → r ≡ routine L t
+  entry-named r h e = sym (entry-of L r (fit r h) .its-own) ∙ ap (routine L) (eqb-true (entry L r) t e)
 
-  callee-named : known ≡ true → callee L t ≡ routine L t
+  callee-named : is-entry ≡ true → callee L t ≡ routine L t
   unfolding callee
   callee-named e =
       let k = both (ltb (routine L t) (routines L)) (eqb (entry L (routine L t)) t) e in
       let q = ltb-true (routine L t) (routines L) (k .0) in
-      find-only (λ r. eqb (entry L r) t) (routine L t) (routines L) 0 (omega arith) (omega arith) (k .1) (λ r l h e′. named-there r (omega arith) e′)
+      find-only (λ r. eqb (entry L r) t) (routine L t) (routines L) 0 (omega arith) (omega arith) (k .1) (λ r l h e′. entry-named r (omega arith) e′)
 
-  callee-unknown : known ≡ false → callee L t ≡ routines L
+  callee-none : is-entry ≡ false → callee L t ≡ routines L
   unfolding callee
-  callee-unknown e =
+  callee-none e =
       find-none (λ r. eqb (entry L r) t) (routines L) 0
       (λ r l h e′.
       let below : r < routines L = omega arith in
-      let q = named-there r below e′ in
-      let k : known ≡ true = rw (lt-ltb (routine L t) (routines L) (rw (← q) below), ← q) e′ in
+      let q = entry-named r below e′ in
+      let k : is-entry ≡ true = rw (lt-ltb (routine L t) (routines L) (rw (← q) below), ← q) e′ in
       absurd (absurd-bool (sym k ∙ e)))
       ∙ zero-add (routines L)
 
-  abbrev Judged : (a r d : ℕ) → Type 0
-  Judged a r d =
+  abbrev CallAnswer : (a r d : ℕ) → Type 0
+  CallAnswer a r d =
       cond (eqb a 255) (13 + 256 * a)
-      (cond (not known) (14 + 256 * a)
+      (cond (not is-entry) (14 + 256 * a)
       (cond (ltb (need L r) (d + 1 + need L (routine L t))) (15 + 256 * a)
       (cond (badSuccessor L r (successor (plusOne a) d false)) (16 + 256 * a) 0)))
       ≡ firstBroken (classChecks L a (class.Call t) r d false)
 
-  judged-call : (a r d : ℕ) → Judged a r d
+  call-answer : (a r d : ℕ) → CallAnswer a r d
   unfolding firstBroken
-  judged-call a r d =
+  call-answer a r d =
       let bad = badSuccessor L r (successor (plusOne a) d false) in
-      by-test known
+      by-test is-entry
       (λ e.
       let q = ltb-true (routine L t) (routines L) (both (ltb (routine L t) (routines L)) (eqb (entry L (routine L t)) t) e .0) in
-      rw (e, and-on (eqb a 255), or-off bad, callee-named e, ne-eqb (routine L t) (routines L) (omega arith)))
-      (λ e. rw (e, and-on (eqb a 255), callee-unknown e, eq-eqb (routines L) (routines L) refl))
+      rw (e, and-true (eqb a 255), or-false bad, callee-named e, ne-eqb (routine L t) (routines L) (omega arith)))
+      (λ e. rw (e, and-true (eqb a 255), callee-none e, eq-eqb (routines L) (routines L) refl))
 
-pub call : (s l : List ℕ) → Entered (drawnBy s l) → (a t r d : ℕ)
+pub call : (s l : List ℕ) → EntriesFit (withoutBanks s l) → (a t r d : ℕ)
     → cond (eqb a 255) (13 + 256 * a)
     (cond (not (ltb (wordOf s t .routine) (length l / 2) && eqb (getD l (2 * wordOf s t .routine) 0) t)) (14 + 256 * a)
     (cond (ltb (getD l (2 * r + 1) 0) (d + 1 + getD l (2 * wordOf s t .routine + 1) 0)) (15 + 256 * a)
     (cond (badWord (wordOf s ((a + 1) % 256)) r d false) (16 + 256 * a) 0)))
-    ≡ firstBroken (classChecks (drawnBy s l) a (class.Call t) r d false)
+    ≡ firstBroken (classChecks (withoutBanks s l) a (class.Call t) r d false)
 unfolding word described marked routine depth routines entry need wordOf
-call s l entered a t r d = judged-call (drawnBy s l) entered t a r d
+call s l fit a t r d = call-answer (withoutBanks s l) fit t a r d

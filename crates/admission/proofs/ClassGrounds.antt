@@ -1,41 +1,40 @@
 -- The rules 9 to 16 by class, in the tests that the code makes.
 -- Assumes nothing.
 use Prim.Native.Nat.{ℕ, _+_, _-_, _*_, _%_}
-use mathlib.Core.Path.{_≡_, refl}
+use mathlib.Core.Path.{_≡_}
 use mathlib.Core.List.{List, []}
-use mathlib.Core.Bool.{Bool, true, false, not, cond, _&&_, _||_}
+use mathlib.Core.Bool.{Bool, not, cond, _&&_, _||_, and-true, and-false, or-false}
 use lib.Dec.{eqb, ltb}
 use Rattle.isa.specs.declared.Class.the-variants as class
 use Rattle.isa.specs.declared.OverflowEffect.the-variants.{Keeps}
 use Rattle.slices.specs.Checks.{firstBroken}
 use Rattle.rules.specs.Sheet.{word, described, marked, routine, depth}
-use Rattle.rules.proofs.Tests.{and-on, and-off, or-off}
-use Rattle.admission.specs.Parts.{drawnBy, classChecks}
-use Rattle.admission.specs.Tests.{badWord}
-use Rattle.admission.specs.Words.{wordOf}
+use Rattle.admission.specs.internal.Parts.{withoutBanks, classChecks}
+use Rattle.admission.specs.internal.Tests.{badWord}
+use Rattle.admission.specs.internal.Words.{wordOf}
 
 module _ (s : List ℕ) (a r d : ℕ) (v : Bool) where
-  pub onward : cond (eqb a 255) (13 + 256 * a) (cond (badWord (wordOf s ((a + 1) % 256)) r d v) (16 + 256 * a) 0)
-      ≡ firstBroken (classChecks (drawnBy s []) a (class.Next Keeps) r d v)
+  pub next-word : cond (eqb a 255) (13 + 256 * a) (cond (badWord (wordOf s ((a + 1) % 256)) r d v) (16 + 256 * a) 0)
+      ≡ firstBroken (classChecks (withoutBanks s []) a (class.Next Keeps) r d v)
   unfolding firstBroken word described marked routine depth wordOf
-  onward = rw (and-on (eqb a 255), or-off (badWord (wordOf s ((a + 1) % 256)) r d v))
+  next-word = rw (and-true (eqb a 255), or-false (badWord (wordOf s ((a + 1) % 256)) r d v))
 
   pub branch : (t : ℕ) (tests : Bool)
       → cond (tests && not v) (10 + 256 * a) (cond (eqb a 255) (13 + 256 * a)
       (cond (badWord (wordOf s t) r d v || badWord (wordOf s ((a + 1) % 256)) r d v) (16 + 256 * a) 0))
-      ≡ firstBroken (classChecks (drawnBy s []) a (class.Branch t tests) r d v)
+      ≡ firstBroken (classChecks (withoutBanks s []) a (class.Branch t tests) r d v)
   unfolding firstBroken word described marked routine depth wordOf
-  branch t tests = rw (and-on (eqb a 255), or-off (badWord (wordOf s ((a + 1) % 256)) r d v))
+  branch t tests = rw (and-true (eqb a 255), or-false (badWord (wordOf s ((a + 1) % 256)) r d v))
 
   module _ (l : List ℕ) where
-    pub jump : (t : ℕ) → cond (badWord (wordOf s t) r d v) (16 + 256 * a) 0 ≡ firstBroken (classChecks (drawnBy s l) a (class.Jump t) r d v)
+    pub jump : (t : ℕ) → cond (badWord (wordOf s t) r d v) (16 + 256 * a) 0 ≡ firstBroken (classChecks (withoutBanks s l) a (class.Jump t) r d v)
     unfolding firstBroken word described marked routine depth wordOf
-    jump t = rw (and-off (eqb a 255), or-off (badWord (wordOf s t) r d v))
+    jump t = rw (and-false (eqb a 255), or-false (badWord (wordOf s t) r d v))
 
-    pub return : cond (eqb r 0 || ltb 0 d) (12 + 256 * a) 0 ≡ firstBroken (classChecks (drawnBy s l) a class.Return r d v)
+    pub return : cond (eqb r 0 || ltb 0 d) (12 + 256 * a) 0 ≡ firstBroken (classChecks (withoutBanks s l) a class.Return r d v)
     unfolding firstBroken
-    return = rw (and-off (eqb a 255))
+    return = rw (and-false (eqb a 255))
 
-    pub halt : 0 ≡ firstBroken (classChecks (drawnBy s l) a class.Halt r d v)
+    pub halt : 0 ≡ firstBroken (classChecks (withoutBanks s l) a class.Halt r d v)
     unfolding firstBroken
-    halt = rw (and-off (eqb a 255))
+    halt = rw (and-false (eqb a 255))

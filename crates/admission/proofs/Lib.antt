@@ -1,4 +1,4 @@
+pub mod Answer
 pub mod AtAddress
 pub mod Callees
 pub mod ClassGrounds
-pub mod Promised

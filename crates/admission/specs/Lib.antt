@@ -1,4 +1,2 @@
 pub mod Admission
-pub mod Parts
-pub mod Tests
-pub mod Words
+pub mod internal

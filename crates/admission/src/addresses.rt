@@ -21,7 +21,7 @@ ghost use Rattle.rules.specs.Grounds.{addressChecks};
 ghost use Rattle.slices.specs.Checks.{firstBroken};
 ghost use Rattle.rules.specs.Sheet.{listing};
 ghost use Rattle.rules.specs.Successors.{markAfter};
-ghost use Rattle.admission.specs.Parts.{drawnBy, classChecks, Entered};
+ghost use Rattle.admission.specs.internal.Parts.{withoutBanks, classChecks, EntriesFit};
 
 // Whether V may be marked after an instruction.
 fn mark_after(effect: OverflowEffect, marked: bool) -> bool
@@ -34,19 +34,19 @@ fn mark_after(effect: OverflowEffect, marked: bool) -> bool
     }
 }
 
-// A depth less one, or 0.
-fn less_one(depth: u8) -> u16
+// One less than a depth, or 0.
+fn one_less(depth: u8) -> u16
     ensures { λ r. ⌜ r ≡ depth - 1 ⌝ }
 {
     if 0 < depth { wide(depth) - 1 } else { 0 }
 }
 
 // 9 to 16 where the next word is the one successor, at this depth and with V marked or not.
-fn onward_ground(sheet: &[u8], a: u8, routine: u8, deep: u16, mark: bool) -> u32
-    ensures { λ r. ⌜ r ≡ firstBroken (classChecks (drawnBy (now (sheet .entry)) []) a (Next Keeps) routine deep mark) ⌝ }
+fn next_word_ground(sheet: &[u8], a: u8, routine: u8, depth: u16, mark: bool) -> u32
+    ensures { λ r. ⌜ r ≡ firstBroken (classChecks (withoutBanks (now (sheet .entry)) []) a (Next Keeps) routine depth mark) ⌝ }
 {
     let next = wrapping_add_u8(a, 1);
-    let bad = bad_successor(sheet, next, routine, deep, mark);
+    let bad = bad_successor(sheet, next, routine, depth, mark);
     first(a == 255, 13, a, first(bad, 16, a, 0))
 }
 
@@ -60,12 +60,12 @@ fn branch_ground(
     depth: u8,
     marked: bool,
 ) -> u32
-    ensures { λ r. ⌜ r ≡ firstBroken (classChecks (drawnBy (now (sheet .entry)) []) a (Branch target tests) routine depth marked) ⌝ }
+    ensures { λ r. ⌜ r ≡ firstBroken (classChecks (withoutBanks (now (sheet .entry)) []) a (Branch target tests) routine depth marked) ⌝ }
 {
-    let deep = wide(depth);
-    let jumped = bad_successor(sheet, target, routine, deep, marked);
-    let passed = bad_successor(sheet, wrapping_add_u8(a, 1), routine, deep, marked);
-    let rest = first(a == 255, 13, a, first(jumped | passed, 16, a, 0));
+    let kept = wide(depth);
+    let bad_target = bad_successor(sheet, target, routine, kept, marked);
+    let bad_next = bad_successor(sheet, wrapping_add_u8(a, 1), routine, kept, marked);
+    let rest = first(a == 255, 13, a, first(bad_target | bad_next, 16, a, 0));
     first(tests & !marked, 10, a, rest)
 }
 
@@ -79,16 +79,16 @@ fn is_entry(list: &[u8], routine: u8, entry: u8) -> bool
 // 9 to 16 at a call. Entries have their own routine's word (7), so the target's word names the
 // callee.
 fn call_ground(sheet: &[u8], list: &[u8], a: u8, target: u8, routine: u8, depth: u8) -> u32
-    requires { ⌜ Entered (drawnBy (now sheet) (now list)) ⌝ }
-    ensures { λ r. ⌜ r ≡ firstBroken (classChecks (drawnBy (now (sheet .entry)) (now (list .entry))) a (Call target) routine depth false) ⌝ }
+    requires { ⌜ EntriesFit (withoutBanks (now sheet) (now list)) ⌝ }
+    ensures { λ r. ⌜ r ≡ firstBroken (classChecks (withoutBanks (now (sheet .entry)) (now (list .entry))) a (Call target) routine depth false) ⌝ }
 {
     let w = word_at(sheet, target);
     let callee = w.routine;
     let need = wide(need_of(list, routine));
-    let held = wide(depth) + 1;
-    let within = held + wide(need_of(list, callee));
+    let with_return = wide(depth) + 1;
+    let total = with_return + wide(need_of(list, callee));
     let bad = bad_successor(sheet, wrapping_add_u8(a, 1), routine, wide(depth), false);
-    let after = first(need < within, 15, a, first(bad, 16, a, 0));
+    let after = first(need < total, 15, a, first(bad, 16, a, 0));
     first(
         a == 255,
         13,
@@ -107,20 +107,16 @@ fn class_ground(
     depth: u8,
     marked: bool,
 ) -> u32
-    requires { ⌜ Entered (drawnBy (now sheet) (now list)) ⌝ }
-    ensures { λ r. ⌜ r ≡ firstBroken (classChecks (drawnBy (now (sheet .entry)) (now (list .entry))) a class routine depth marked) ⌝ }
+    requires { ⌜ EntriesFit (withoutBanks (now sheet) (now list)) ⌝ }
+    ensures { λ r. ⌜ r ≡ firstBroken (classChecks (withoutBanks (now (sheet .entry)) (now (list .entry))) a class routine depth marked) ⌝ }
 {
     match class {
         Class::Next(effect) => {
-            onward_ground(sheet, a, routine, wide(depth), mark_after(effect, marked))
+            next_word_ground(sheet, a, routine, wide(depth), mark_after(effect, marked))
         }
         Class::Jump(target) => {
-            first(
-                bad_successor(sheet, target, routine, wide(depth), marked),
-                16,
-                a,
-                0,
-            )
+            let bad_target = bad_successor(sheet, target, routine, wide(depth), marked);
+            first(bad_target, 16, a, 0)
         }
         Class::Branch(target, tests) => {
             branch_ground(sheet, a, target, tests, routine, depth, marked)
@@ -128,14 +124,14 @@ fn class_ground(
         Class::JumpReg => first(true, 9, a, 0),
         Class::Call(target) => call_ground(sheet, list, a, target, routine, depth),
         Class::Return => first((routine == 0) | (0 < depth), 12, a, 0),
-        Class::Push(_) => onward_ground(sheet, a, routine, wide(depth) + 1, marked),
+        Class::Push(_) => next_word_ground(sheet, a, routine, wide(depth) + 1, marked),
         Class::Pop => {
-            let rest = onward_ground(sheet, a, routine, less_one(depth), marked);
-            first(depth == 0, 11, a, rest)
+            let after_pop = next_word_ground(sheet, a, routine, one_less(depth), marked);
+            first(depth == 0, 11, a, after_pop)
         }
         Class::Swap(_) => {
-            let rest = onward_ground(sheet, a, routine, wide(depth), marked);
-            first(depth == 0, 11, a, rest)
+            let after_swap = next_word_ground(sheet, a, routine, wide(depth), marked);
+            first(depth == 0, 11, a, after_swap)
         }
         Class::Halt => 0,
     }
@@ -143,7 +139,7 @@ fn class_ground(
 
 // The first of 8 to 16 that a described address breaks, or 0.
 pub fn address_ground(opcodes: &[u8], arguments: &[u8], sheet: &[u8], list: &[u8], a: u8) -> u32
-    requires { ⌜ Entered (drawnBy (now sheet) (now list)) ⌝ }
+    requires { ⌜ EntriesFit (withoutBanks (now sheet) (now list)) ⌝ }
     ensures { λ r. ⌜ r ≡ firstBroken (addressChecks (listing (now (opcodes .entry)) (now (arguments .entry)) (now (sheet .entry)) (now (list .entry))) a) ⌝ }
 {
     let w = word_at(sheet, a);

@@ -6,8 +6,8 @@ ghost use Prim.Native.Nat.{_+_, _*_};
 ghost use mathlib.Core.Path.{_≡_};
 ghost use mathlib.Core.Bool.{cond};
 ghost use lib.ListN.{getD};
-ghost use Rattle.admission.specs.Words.{wordOf};
-ghost use Rattle.admission.specs.Tests.{badBlankWord, badRoutineWord, badEntryWord, badWord};
+ghost use Rattle.admission.specs.internal.Words.{wordOf};
+ghost use Rattle.admission.specs.internal.Tests.{badBlankWord, badRoutineWord, badEntryWord, badWord};
 
 // A broken rule's number and place, or what the rules after it answer.
 pub fn first(broken: bool, number: u8, place: u8, rest: u32) -> u32
@@ -50,9 +50,9 @@ pub fn entry_ground(sheet: &[u8], list: &[u8], routine: u8) -> u32
 }
 
 // Whether a successor breaks 16, in a routine, at a depth, where V may be marked or not.
-pub fn bad_successor(sheet: &[u8], to: u8, routine: u8, deep: u16, mark: bool) -> bool
-    ensures { λ r. ⌜ r ≡ badWord (wordOf (now (sheet .entry)) to) routine deep mark ⌝ }
+pub fn bad_successor(sheet: &[u8], to: u8, routine: u8, depth: u16, mark: bool) -> bool
+    ensures { λ r. ⌜ r ≡ badWord (wordOf (now (sheet .entry)) to) routine depth mark ⌝ }
 {
     let w = word_at(sheet, to);
-    !w.described | ((w.routine != routine) | ((wide(w.depth) != deep) | (w.marked & !mark)))
+    !w.described | ((w.routine != routine) | ((wide(w.depth) != depth) | (w.marked & !mark)))
 }

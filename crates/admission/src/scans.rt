@@ -1,42 +1,90 @@
-// The scans of places, lowest first, and admission by them.
+// The stages of admission: lengths, then scans of places, lowest first. In 01's words a ground is a
+// rule that a listing breaks, and its place an address or a routine.
 use super::addresses::address_ground;
 use super::grounds::blank_ground;
 use super::grounds::entry_ground;
 use super::grounds::first;
 use super::grounds::routine_ground;
 use super::sheet::entry_of;
-ghost use Prim.Native.Nat.{_≤_, _/_};
+use slices::BANK_SIZE;
 ghost use mathlib.Core.Path.{_≡_};
-ghost use mathlib.Core.List.{[]};
-ghost use lib.ListN.{length};
-ghost use Rattle.rules.specs.Scans.{sizesOf, scannedOf};
 ghost use Rattle.rules.specs.Sheet.{listing};
-ghost use Rattle.admission.specs.Parts.{drawnBy, Entered, blanksOf, namesOf, entriesOf, addressesOf};
+ghost use Rattle.slices.specs.Checks.{firstBroken};
+ghost use Rattle.admission.specs.declared.scans.Stage.the-variants.{Entries};
+ghost use Rattle.admission.specs.internal.Stages.{stageChecks, stagePlaces, StageReady, stageOf, sizesOf, scansOf, stagesOf};
+
+// The bytes of a stack sheet: a word for each address.
+const SHEET_SIZE: usize = 512;
+
+// The most bytes of a routine list: two for each of 64 routines.
+const LIST_LIMIT: usize = 128;
+
+// The rules that are judged at one place after another: 4, 5, 7, and 8 to 16.
+enum Stage {
+    Blanks,
+    Routines,
+    Entries,
+    Addresses,
+}
 
 // 1, 2 or 3 for lengths that are not as they should be, or 0.
 fn sizes(opcodes: &[u8], arguments: &[u8], sheet: &[u8], list: &[u8]) -> u32
     ensures { λ r. ⌜ r ≡ sizesOf (listing (now (opcodes .entry)) (now (arguments .entry)) (now (sheet .entry)) (now (list .entry))) ⌝ }
 {
-    if !((opcodes.len() == 256) & (arguments.len() == 256)) {
+    if !((opcodes.len() == BANK_SIZE) & (arguments.len() == BANK_SIZE)) {
         return 1;
     }
-    if !(sheet.len() == 512) {
+    if !(sheet.len() == SHEET_SIZE) {
         return 2;
     }
     let n = list.len();
-    if (n % 2 == 1) | ((n == 0) | (128 < n)) {
+    if (n % 2 == 1) | ((n == 0) | (LIST_LIMIT < n)) {
         return 3;
     }
     0
 }
 
-// 4 at the lowest address that breaks it, or 0.
-fn scan_blanks(sheet: &[u8]) -> u32
-    ensures { λ r. ⌜ r ≡ blanksOf (drawnBy (now (sheet .entry)) []) ⌝ }
+// How many places a stage has, where so many routines are listed.
+fn places(stage: Stage, routines: usize) -> usize
+    ensures { λ r. ⌜ r ≡ stagePlaces stage routines ⌝ }
 {
+    match stage {
+        Stage::Blanks => BANK_SIZE,
+        Stage::Routines => BANK_SIZE,
+        Stage::Entries => routines,
+        Stage::Addresses => BANK_SIZE,
+    }
+}
+
+// The first rule of a stage that a place breaks, or 0.
+fn place_ground(
+    stage: Stage,
+    opcodes: &[u8],
+    arguments: &[u8],
+    sheet: &[u8],
+    list: &[u8],
+    place: u8,
+) -> u32
+    requires { ⌜ StageReady stage (listing (now opcodes) (now arguments) (now sheet) (now list)) ⌝ }
+    ensures { λ r. ⌜ r ≡ firstBroken (stageChecks stage (listing (now (opcodes .entry)) (now (arguments .entry)) (now (sheet .entry)) (now (list .entry))) place) ⌝ }
+{
+    match stage {
+        Stage::Blanks => blank_ground(sheet, place),
+        Stage::Routines => routine_ground(sheet, list.len() / 2, place),
+        Stage::Entries => entry_ground(sheet, list, place),
+        Stage::Addresses => address_ground(opcodes, arguments, sheet, list, place),
+    }
+}
+
+// The first rule of a stage that is broken at the lowest place where one is, or 0.
+fn scan(stage: Stage, opcodes: &[u8], arguments: &[u8], sheet: &[u8], list: &[u8]) -> u32
+    requires { ⌜ StageReady stage (listing (now opcodes) (now arguments) (now sheet) (now list)) ⌝ }
+    ensures { λ r. ⌜ r ≡ stageOf stage (listing (now (opcodes .entry)) (now (arguments .entry)) (now (sheet .entry)) (now (list .entry))) ⌝ }
+{
+    let n = places(stage, list.len() / 2);
     let mut i: usize = 0;
-    while i < 256 {
-        let answer = blank_ground(sheet, i as u8);
+    while i < n {
+        let answer = place_ground(stage, opcodes, arguments, sheet, list, i as u8);
         if answer != 0 {
             return answer;
         }
@@ -45,80 +93,37 @@ fn scan_blanks(sheet: &[u8]) -> u32
     0
 }
 
-// 5 at the lowest address that breaks it, or 0.
-fn scan_names(sheet: &[u8], list: &[u8]) -> u32
-    ensures { λ r. ⌜ r ≡ namesOf (drawnBy (now (sheet .entry)) (now (list .entry))) ⌝ }
+// The first of 4 to 16 that a listing gives, with its place, or 0.
+fn scans(opcodes: &[u8], arguments: &[u8], sheet: &[u8], list: &[u8]) -> u32
+    requires { ⌜ StageReady Entries (listing (now opcodes) (now arguments) (now sheet) (now list)) ⌝ }
+    ensures { λ r. ⌜ r ≡ scansOf (listing (now (opcodes .entry)) (now (arguments .entry)) (now (sheet .entry)) (now (list .entry))) ⌝ }
 {
-    let routines = list.len() / 2;
-    let mut i: usize = 0;
-    while i < 256 {
-        let answer = routine_ground(sheet, routines, i as u8);
-        if answer != 0 {
-            return answer;
-        }
-        i += 1;
-    }
-    0
-}
-
-// 7 of the lowest routine that breaks it, or 0.
-fn scan_entries(sheet: &[u8], list: &[u8]) -> u32
-    requires { ⌜ length (now list) ≤ 128 ⌝ }
-    ensures { λ r. ⌜ r ≡ entriesOf (drawnBy (now (sheet .entry)) (now (list .entry))) ⌝ }
-{
-    let routines = list.len() / 2;
-    let mut routine: usize = 0;
-    while routine < routines {
-        let answer = entry_ground(sheet, list, routine as u8);
-        if answer != 0 {
-            return answer;
-        }
-        routine += 1;
-    }
-    0
-}
-
-// The first of 8 to 16 at the lowest described address that breaks one, or 0.
-fn scan_addresses(opcodes: &[u8], arguments: &[u8], sheet: &[u8], list: &[u8]) -> u32
-    requires { ⌜ Entered (drawnBy (now sheet) (now list)) ⌝ }
-    ensures { λ r. ⌜ r ≡ addressesOf (listing (now (opcodes .entry)) (now (arguments .entry)) (now (sheet .entry)) (now (list .entry))) ⌝ }
-{
-    let mut at: usize = 0;
-    while at < 256 {
-        let answer = address_ground(opcodes, arguments, sheet, list, at as u8);
-        if answer != 0 {
-            return answer;
-        }
-        at += 1;
-    }
-    0
-}
-
-// The first ground that a listing gives, with its place, or 0.
-pub fn admit(opcodes: &[u8], arguments: &[u8], sheet: &[u8], list: &[u8]) -> u32
-    ensures { λ r. ⌜ r ≡ scannedOf (listing (now (opcodes .entry)) (now (arguments .entry)) (now (sheet .entry)) (now (list .entry))) ⌝ }
-{
-    let lengths = sizes(opcodes, arguments, sheet, list);
-    if lengths != 0 {
-        return lengths;
-    }
-    let blanks = scan_blanks(sheet);
+    let blanks = scan(Stage::Blanks, opcodes, arguments, sheet, list);
     if blanks != 0 {
         return blanks;
     }
-    let names = scan_names(sheet, list);
-    if names != 0 {
-        return names;
+    let routines = scan(Stage::Routines, opcodes, arguments, sheet, list);
+    if routines != 0 {
+        return routines;
     }
     let start = first(entry_of(list, 0) != 0, 6, 0, 0);
     if start != 0 {
         return start;
     }
-    let entries = scan_entries(sheet, list);
+    let entries = scan(Stage::Entries, opcodes, arguments, sheet, list);
     if entries != 0 {
         return entries;
     }
-    // Slices made here, since this scan is a call: those handed in then need no place in memory, and
-    // a listing refused by 1 or 2 is answered without one store.
-    scan_addresses(&opcodes[..], &arguments[..], &sheet[..], &list[..])
+    scan(Stage::Addresses, opcodes, arguments, sheet, list)
+}
+
+// The first ground that a listing gives, with its place, or 0.
+pub fn admit(opcodes: &[u8], arguments: &[u8], sheet: &[u8], list: &[u8]) -> u32
+    ensures { λ r. ⌜ r ≡ stagesOf (listing (now (opcodes .entry)) (now (arguments .entry)) (now (sheet .entry)) (now (list .entry))) ⌝ }
+{
+    let lengths = sizes(opcodes, arguments, sheet, list);
+    if lengths != 0 {
+        return lengths;
+    }
+    scans(opcodes, arguments, sheet, list)
 }

@@ -3,9 +3,10 @@ use slices::byte_at;
 ghost use Prim.Native.Nat.{_+_, _*_};
 ghost use mathlib.Core.Path.{_≡_};
 ghost use lib.ListN.{getD};
-ghost use Rattle.admission.specs.Words.{partsOf, wordOf};
+ghost use Rattle.admission.specs.internal.Words.{partsOf, wordOf};
 
-// A sheet word's parts, and whether it is 0.
+// A sheet word's parts (01, 'The stack sheet'), and whether it is 0. `marked`: V is settled here.
+// `depth`: the bytes above the routine's return address.
 pub struct Word {
     pub blank: bool,
     pub described: bool,
@@ -44,14 +45,14 @@ pub fn word_at(sheet: &[u8], a: u8) -> Word
     parts(low + 256 * high)
 }
 
-// The entry of a routine.
+// The entry of a routine: the address at which it is called.
 pub fn entry_of(list: &[u8], routine: u8) -> u8
     ensures { λ r. ⌜ r ≡ getD (now (list .entry)) (2 * routine) 0 ⌝ }
 {
     byte_at(list, 2 * (routine as usize))
 }
 
-// The need of a routine.
+// The need of a routine: the most bytes that it and its callees put above its return address.
 pub fn need_of(list: &[u8], routine: u8) -> u8
     ensures { λ r. ⌜ r ≡ getD (now (list .entry)) (2 * routine + 1) 0 ⌝ }
 {

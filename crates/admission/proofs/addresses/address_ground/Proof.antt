@@ -4,7 +4,7 @@ use borrow.Author.Needs.{needs}
 use borrow.Author.Tests.{not-true, not-false}
 use mathlib.Core.Path.{sym, ap, _∙_}
 use Rattle.admission.specs.declared.sheet.Word.{Word}
-use Rattle.admission.proofs.AtAddress.{passed-over, judged}
+use Rattle.admission.proofs.AtAddress.{undescribed-answer, described-answer}
 use Rattle.admission.proofs.addresses.address_ground.Statement.{statement}
 use Rattle.admission.proofs.addresses.address_ground.Tie as tie
 
@@ -13,7 +13,7 @@ address-ground-spec =
     tie.close
     (tie.spec
     (λ c κs. search needs)
-    (λ c. let a = c .before .before .before .before .before .before .before .args in passed-over (a .opcodes .now) (a .arguments .now) (a .sheet .now) (a .list .now) (a .a) (ap (λ (w : Word). w .described) (sym (c .before .before .word-at .ensures)) ∙ not-true _ (c .if1 .taken)))
+    (λ c. let a = c .before .before .before .before .before .before .before .args in undescribed-answer (a .opcodes .now) (a .arguments .now) (a .sheet .now) (a .list .now) (a .a) (ap (λ (w : Word). w .described) (sym (c .before .before .word-at .ensures)) ∙ not-true _ (c .if1 .taken)))
     (λ c κs. search needs)
     (λ c κs. search needs)
     (λ c κs. search needs)
@@ -21,4 +21,4 @@ address-ground-spec =
     (λ c κs. search needs)
     (λ c κs. search needs)
     (λ c κs. search needs)
-    (λ c. let a = c .before .before .before .before .before .before .before .before .before .before .before .before .before .before .before .args in rw (c .first .ensures, c .before .before .need-of .ensures, c .before .before .before .class-ground .ensures, c .before .before .before .before .before .before .before .before .before .before .word-at .ensures) (judged (a .opcodes .now) (a .arguments .now) (a .sheet .now) (a .list .now) (a .a) (c .before .before .before .before .classify .result .0) (ap (λ (w : Word). w .described) (sym (c .before .before .before .before .before .before .before .before .before .before .word-at .ensures)) ∙ not-false _ (c .before .before .before .before .before .before .before .before .if1 .left)) (rw (c .before .before .before .before .classify .ensures, c .before .before .before .before .before .decode .ensures .table, c .before .before .before .before .before .before .load2 .ensures, c .before .before .before .before .before .before .before .load .ensures)))))
+    (λ c. let a = c .before .before .before .before .before .before .before .before .before .before .before .before .before .before .before .args in rw (c .first .ensures, c .before .before .need-of .ensures, c .before .before .before .class-ground .ensures, c .before .before .before .before .before .before .before .before .before .before .word-at .ensures) (described-answer (a .opcodes .now) (a .arguments .now) (a .sheet .now) (a .list .now) (a .a) (c .before .before .before .before .classify .result .0) (ap (λ (w : Word). w .described) (sym (c .before .before .before .before .before .before .before .before .before .before .word-at .ensures)) ∙ not-false _ (c .before .before .before .before .before .before .before .before .if1 .left)) (rw (c .before .before .before .before .classify .ensures, c .before .before .before .before .before .decode .ensures .table, c .before .before .before .before .before .before .load2 .ensures, c .before .before .before .before .before .before .before .load .ensures)))))

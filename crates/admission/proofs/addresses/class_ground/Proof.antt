@@ -1,6 +1,7 @@
 -- An arm a class; a plain instruction's rules do not look at the list.
 -- Assumes nothing.
 use borrow.Author.Needs.{needs}
+use mathlib.Core.Path.{refl}
 use Rattle.slices.specs.Checks.{firstBroken}
 use Rattle.rules.specs.Sheet.{word, described, marked, routine, depth}
 use Rattle.admission.proofs.ClassGrounds as tests
@@ -41,13 +42,13 @@ class-ground-spec =
     (λ c κs. search needs)
     (λ c κs. search needs)
     (λ c. search needs)
-    (λ c. rw (c .onward-ground .ensures, c .before .mark-after .ensures, c .before .before .wide .ensures, c .before .before .before .before .class .given .1))
+    (λ c. rw (c .next-word-ground .ensures, c .before .mark-after .ensures, c .before .before .wide .ensures, c .before .before .before .before .class .given .1))
     (λ c. rw (c .first .ensures, c .before .bad-successor .ensures, c .before .before .wide2 .ensures, c .before .before .before .before .class2 .given .1) (let a = c .before .before .before .before .before .before .before .before .args in tests.jump (a .sheet .now) (a .a) (a .routine) (a .depth) (a .marked) (a .list .now) _))
     (λ c. rw (c .branch-ground .ensures, c .before .before .class3 .given .1))
-    (λ c. rw (c .first2 .ensures, c .before .enum-told .given .1))
+    (λ c. rw (c .first2 .ensures, c .before .enum-told .given .1) refl)
     (λ c. rw (c .call-ground .ensures, c .before .before .class4 .given .1))
     (λ c. rw (c .first3 .ensures, c .before .enum-told2 .given .1) (let a = c .before .before .before .before .before .args in tests.return (a .sheet .now) (a .a) (a .routine) (a .depth) (a .marked) (a .list .now)))
-    (λ c. rw (c .onward-ground2 .ensures, c .before .wide3 .ensures, c .before .before .enum-told3 .given .1))
-    (λ c. rw (c .first4 .ensures, c .before .onward-ground3 .ensures, c .before .before .less-one .ensures, c .before .before .before .enum-told4 .given .1))
-    (λ c. rw (c .first5 .ensures, c .before .onward-ground4 .ensures, c .before .before .wide4 .ensures, c .before .before .before .enum-told5 .given .1))
+    (λ c. rw (c .next-word-ground2 .ensures, c .before .wide3 .ensures, c .before .before .enum-told3 .given .1))
+    (λ c. rw (c .first4 .ensures, c .before .next-word-ground3 .ensures, c .before .before .one-less .ensures, c .before .before .before .enum-told4 .given .1) refl)
+    (λ c. rw (c .first5 .ensures, c .before .next-word-ground4 .ensures, c .before .before .wide4 .ensures, c .before .before .before .enum-told5 .given .1) refl)
     (λ c. rw (c .enum-told6 .given .1) (let a = c .before .before .before .before .args in tests.halt (a .sheet .now) (a .a) (a .routine) (a .depth) (a .marked) (a .list .now))))

@@ -1,6 +1,7 @@
 -- A test of the list.
 -- Assumes nothing.
 use borrow.Author.Needs.{needs}
+use mathlib.Core.Path.{refl}
 use Rattle.admission.proofs.addresses.is_entry.Statement.{statement}
 use Rattle.admission.proofs.addresses.is_entry.Tie as tie
 
@@ -9,4 +10,4 @@ is-entry-spec =
     tie.close
     (tie.spec
     (λ c κs. search needs)
-    (λ c. rw (c .entry-of .ensures)))
+    (λ c. rw (c .entry-of .ensures) refl))

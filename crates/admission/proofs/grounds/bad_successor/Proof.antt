@@ -1,6 +1,7 @@
 -- The test of 16 on the word.
 -- Assumes nothing.
 use borrow.Author.Needs.{needs}
+use mathlib.Core.Path.{refl}
 use Rattle.admission.proofs.grounds.bad_successor.Statement.{statement}
 use Rattle.admission.proofs.grounds.bad_successor.Tie as tie
 
@@ -10,4 +11,4 @@ bad-successor-spec =
     (tie.spec
     (λ c κs. search needs)
     (λ c κs. search needs)
-    (λ c. rw (c .before .wide .ensures, c .before .before .before .before .word-at .ensures)))
+    (λ c. rw (c .before .wide .ensures, c .before .before .before .before .word-at .ensures) refl))

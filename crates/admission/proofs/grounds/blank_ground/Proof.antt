@@ -1,6 +1,7 @@
 -- The test of 4 on the word.
 -- Assumes nothing.
 use borrow.Author.Needs.{needs}
+use mathlib.Core.Path.{refl}
 use Rattle.admission.proofs.grounds.blank_ground.Statement.{statement}
 use Rattle.admission.proofs.grounds.blank_ground.Tie as tie
 
@@ -10,4 +11,4 @@ blank-ground-spec =
     (tie.spec
     (λ c κs. search needs)
     (λ c κs. search needs)
-    (λ c. rw (c .first .ensures, c .before .before .before .word-at .ensures)))
+    (λ c. rw (c .first .ensures, c .before .before .before .word-at .ensures) refl))

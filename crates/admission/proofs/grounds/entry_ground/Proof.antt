@@ -1,6 +1,7 @@
 -- The test of 7 on the entry's word.
 -- Assumes nothing.
 use borrow.Author.Needs.{needs}
+use mathlib.Core.Path.{refl}
 use Rattle.admission.proofs.grounds.entry_ground.Statement.{statement}
 use Rattle.admission.proofs.grounds.entry_ground.Tie as tie
 
@@ -11,4 +12,4 @@ entry-ground-spec =
     (λ c κs. search needs)
     (λ c κs. search needs)
     (λ c κs. search needs)
-    (λ c. rw (c .first .ensures, c .before .before .before .before .before .word-at .ensures, c .before .before .before .before .before .before .entry-of .ensures)))
+    (λ c. rw (c .first .ensures, c .before .before .before .before .before .word-at .ensures, c .before .before .before .before .before .before .entry-of .ensures) refl))

@@ -1,6 +1,7 @@
 -- The number and place, or the rest.
 -- Assumes nothing.
 use borrow.Author.Needs.{needs}
+use mathlib.Core.Path.{refl}
 use Rattle.admission.proofs.grounds.first.Statement.{statement}
 use Rattle.admission.proofs.grounds.first.Tie as tie
 
@@ -10,5 +11,5 @@ first-spec =
     (tie.spec
     (λ c. search needs)
     (λ c. search needs)
-    (λ c. rw (c .if1 .taken))
+    (λ c. rw (c .if1 .taken) refl)
     (λ c. search needs))

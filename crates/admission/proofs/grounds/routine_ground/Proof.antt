@@ -1,6 +1,7 @@
 -- The test of 5 on the word.
 -- Assumes nothing.
 use borrow.Author.Needs.{needs}
+use mathlib.Core.Path.{refl}
 use Rattle.admission.proofs.grounds.routine_ground.Statement.{statement}
 use Rattle.admission.proofs.grounds.routine_ground.Tie as tie
 
@@ -11,4 +12,4 @@ routine-ground-spec =
     (λ c κs. search needs)
     (λ c. search needs)
     (λ c κs. search needs)
-    (λ c. rw (c .first .ensures, c .before .before .before .word-at .ensures)))
+    (λ c. rw (c .first .ensures, c .before .before .before .word-at .ensures) refl))

@@ -1,5 +1,6 @@
 -- Shifts and masks as quotients and remainders.
 -- Assumes nothing.
+use mathlib.Core.Path.{refl}
 use Prim.Native.Nat.{_/_}
 use lib.Bits.{and-mask}
 use native.Mathlib.Omega.{arith}
@@ -12,4 +13,4 @@ parts-spec =
     (tie.spec
     (λ c. rw (and-mask (c .args .n / 256) 6) (omega arith))
     (λ c. rw (and-mask (c .args .n) 8) (omega arith))
-    (λ c. rw (and-mask (c .args .n / 32768) 1, and-mask (c .args .n / 16384) 1, and-mask (c .args .n / 256) 6, and-mask (c .args .n) 8)))
+    (λ c. rw (and-mask (c .args .n / 32768) 1, and-mask (c .args .n / 16384) 1, and-mask (c .args .n / 256) 6, and-mask (c .args .n) 8) refl))

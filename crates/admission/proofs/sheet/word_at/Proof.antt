@@ -1,7 +1,7 @@
 -- The two bytes as one number.
 -- Assumes nothing.
 use borrow.Author.Needs.{needs}
-use Rattle.admission.specs.Words.{wordOf}
+use Rattle.admission.specs.internal.Words.{wordOf}
 use Rattle.admission.proofs.sheet.word_at.Statement.{statement}
 use Rattle.admission.proofs.sheet.word_at.Tie as tie
 

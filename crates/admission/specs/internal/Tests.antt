@@ -1,4 +1,4 @@
--- The rules 4, 5, 7 and 16 on a sheet word's parts. They are those of `rules` (proofs/Parts.antt).
+-- The rules 4, 5, 7 and 16 on a sheet word's parts. They are those of `rules` where the word is that of the sheet.
 -- Assumes nothing.
 use Prim.Native.Nat.{ℕ}
 use mathlib.Core.Bool.{Bool, not, _&&_, _||_}
