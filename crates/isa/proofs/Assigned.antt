@@ -9,7 +9,7 @@ use native.Mathlib.Omega.{arith}
 use lib.Dec.{eqb}
 use borrow.Author.Tests.{eqb-true}
 use Rattle.slices.proofs.Below.{at}
-use Rattle.slices.proofs.Lookup.{mapped}
+use Rattle.slices.specs.Lists.{mapped}
 use Rattle.isa.specs.Decode.{forms, matches, rowsFor, firstFor, formOf}
 use Rattle.isa.specs.Table.{row, rowOf, opcodeIn, argumentIn}
 use Rattle.isa.specs.declared.Argument.{Argument}
