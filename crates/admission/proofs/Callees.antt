@@ -11,7 +11,7 @@ use lib.ListN.{length, getD}
 use lib.Dec.{eqb, ltb}
 use borrow.Author.Tests.{eqb-true, eq-eqb, ne-eqb, lt-ltb, ltb-true}
 use Rattle.isa.specs.declared.Class.the-variants as class
-use Rattle.model.specs.State.{plusOne}
+use Rattle.model.specs.State.{nextAddress}
 use Rattle.slices.proofs.Bools.{both, by-test}
 use Rattle.rules.specs.Grounds.{find, callee, badSuccessor}
 use Rattle.slices.specs.Checks.{firstBroken}
@@ -75,13 +75,13 @@ module _ (L : Listing) (fit : EntriesFit L) (t : ℕ) where
       cond (eqb a 255) (13 + 256 * a)
       (cond (not is-entry) (14 + 256 * a)
       (cond (ltb (need L r) (d + 1 + need L (routine L t))) (15 + 256 * a)
-      (cond (badSuccessor L r (successor (plusOne a) d false)) (16 + 256 * a) 0)))
+      (cond (badSuccessor L r (successor (nextAddress a) d false)) (16 + 256 * a) 0)))
       ≡ firstBroken (classChecks L a (class.Call t) r d false)
 
   call-answer : (a r d : ℕ) → CallAnswer a r d
   unfolding firstBroken
   call-answer a r d =
-      let bad = badSuccessor L r (successor (plusOne a) d false) in
+      let bad = badSuccessor L r (successor (nextAddress a) d false) in
       by-test is-entry
       (λ e.
       let q = ltb-true (routine L t) (routines L) (both (ltb (routine L t) (routines L)) (eqb (entry L (routine L t)) t) e .0) in

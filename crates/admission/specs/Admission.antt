@@ -6,7 +6,7 @@ use mathlib.Core.List.{List}
 use Rattle.rules.specs.Demand.{Starts, Holds}
 use Rattle.rules.specs.FirstDemand.{FirstDemand}
 use Rattle.rules.specs.Grounds.{admitOf}
-use Rattle.rules.specs.RunLists.{World, Call}
+use Rattle.rules.specs.RunLists.{Snapshot, ListedRun}
 use Rattle.rules.specs.Sheet.{Listing}
 
 pub record Admission (L : Listing) (answer : ℕ) : Type 0 where
@@ -15,4 +15,4 @@ pub record Admission (L : Listing) (answer : ℕ) : Type 0 where
   -- 0 exactly if every rule is kept, else the first broken rule with its place
   pub first : FirstDemand L answer
   -- 0: every list of runs from every start is safe
-  pub third : answer ≡ 0 → (w : World) → Starts w → (cs : List Call) → Holds L w cs
+  pub third : answer ≡ 0 → (w : Snapshot) → Starts w → (rs : List ListedRun) → Holds L w rs

@@ -3,7 +3,7 @@ use super::grounds::bad_successor;
 use super::grounds::first;
 use super::sheet::entry_of;
 use super::sheet::need_of;
-use super::sheet::wide;
+use super::sheet::widen;
 use super::sheet::word_at;
 use isa::Class;
 use isa::OverflowEffect;
@@ -38,7 +38,7 @@ fn mark_after(effect: OverflowEffect, marked: bool) -> bool
 fn one_less(depth: u8) -> u16
     ensures { λ r. ⌜ r ≡ depth - 1 ⌝ }
 {
-    if 0 < depth { wide(depth) - 1 } else { 0 }
+    if 0 < depth { widen(depth) - 1 } else { 0 }
 }
 
 // 9 to 16 where the next word is the one successor, at this depth and with V marked or not.
@@ -62,7 +62,7 @@ fn branch_ground(
 ) -> u32
     ensures { λ r. ⌜ r ≡ firstBroken (classChecks (withoutBanks (now (sheet .entry)) []) a (Branch target tests) routine depth marked) ⌝ }
 {
-    let kept = wide(depth);
+    let kept = widen(depth);
     let bad_target = bad_successor(sheet, target, routine, kept, marked);
     let bad_next = bad_successor(sheet, wrapping_add_u8(a, 1), routine, kept, marked);
     let rest = first(a == 255, 13, a, first(bad_target | bad_next, 16, a, 0));
@@ -84,10 +84,10 @@ fn call_ground(sheet: &[u8], list: &[u8], a: u8, target: u8, routine: u8, depth:
 {
     let w = word_at(sheet, target);
     let callee = w.routine;
-    let need = wide(need_of(list, routine));
-    let with_return = wide(depth) + 1;
-    let total = with_return + wide(need_of(list, callee));
-    let bad = bad_successor(sheet, wrapping_add_u8(a, 1), routine, wide(depth), false);
+    let need = widen(need_of(list, routine));
+    let with_return = widen(depth) + 1;
+    let total = with_return + widen(need_of(list, callee));
+    let bad = bad_successor(sheet, wrapping_add_u8(a, 1), routine, widen(depth), false);
     let after = first(need < total, 15, a, first(bad, 16, a, 0));
     first(
         a == 255,
@@ -112,10 +112,10 @@ fn class_ground(
 {
     match class {
         Class::Next(effect) => {
-            next_word_ground(sheet, a, routine, wide(depth), mark_after(effect, marked))
+            next_word_ground(sheet, a, routine, widen(depth), mark_after(effect, marked))
         }
         Class::Jump(target) => {
-            let bad_target = bad_successor(sheet, target, routine, wide(depth), marked);
+            let bad_target = bad_successor(sheet, target, routine, widen(depth), marked);
             first(bad_target, 16, a, 0)
         }
         Class::Branch(target, tests) => {
@@ -124,13 +124,13 @@ fn class_ground(
         Class::JumpReg => first(true, 9, a, 0),
         Class::Call(target) => call_ground(sheet, list, a, target, routine, depth),
         Class::Return => first((routine == 0) | (0 < depth), 12, a, 0),
-        Class::Push(_) => next_word_ground(sheet, a, routine, wide(depth) + 1, marked),
+        Class::Push(_) => next_word_ground(sheet, a, routine, widen(depth) + 1, marked),
         Class::Pop => {
             let after_pop = next_word_ground(sheet, a, routine, one_less(depth), marked);
             first(depth == 0, 11, a, after_pop)
         }
         Class::Swap(_) => {
-            let after_swap = next_word_ground(sheet, a, routine, wide(depth), marked);
+            let after_swap = next_word_ground(sheet, a, routine, widen(depth), marked);
             first(depth == 0, 11, a, after_swap)
         }
         Class::Halt => 0,

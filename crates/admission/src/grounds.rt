@@ -1,6 +1,6 @@
 // The rules as tests without branches, and the first that is broken.
 use super::sheet::entry_of;
-use super::sheet::wide;
+use super::sheet::widen;
 use super::sheet::word_at;
 ghost use Prim.Native.Nat.{_+_, _*_};
 ghost use mathlib.Core.Path.{_≡_};
@@ -54,5 +54,5 @@ pub fn bad_successor(sheet: &[u8], to: u8, routine: u8, depth: u16, mark: bool) 
     ensures { λ r. ⌜ r ≡ badWord (wordOf (now (sheet .entry)) to) routine depth mark ⌝ }
 {
     let w = word_at(sheet, to);
-    !w.described | ((w.routine != routine) | ((wide(w.depth) != depth) | (w.marked & !mark)))
+    !w.described | ((w.routine != routine) | ((widen(w.depth) != depth) | (w.marked & !mark)))
 }

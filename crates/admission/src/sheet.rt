@@ -16,7 +16,7 @@ pub struct Word {
 }
 
 // A byte as a wider number.
-pub fn wide(b: u8) -> u16
+pub fn widen(b: u8) -> u16
     ensures { λ r. ⌜ r ≡ b ⌝ }
 {
     b as u16
@@ -40,8 +40,8 @@ pub fn word_at(sheet: &[u8], a: u8) -> Word
     ensures { λ r. ⌜ r ≡ wordOf (now (sheet .entry)) a ⌝ }
 {
     let i = 2 * (a as usize);
-    let low = wide(byte_at(sheet, i));
-    let high = wide(byte_at(sheet, i + 1));
+    let low = widen(byte_at(sheet, i));
+    let high = widen(byte_at(sheet, i + 1));
     parts(low + 256 * high)
 }
 

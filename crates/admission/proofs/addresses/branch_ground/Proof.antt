@@ -16,4 +16,4 @@ branch-ground-spec =
     (λ c κs. search needs)
     (λ c κs. search needs)
     (λ c κs. search needs)
-    (λ c. rw (c .first3 .ensures, c .before .first2 .ensures, c .before .before .first .ensures, c .before .before .before .bad-successor2 .ensures, c .before .before .before .before .wrapping-add-u8 .ensures, c .before .before .before .before .before .bad-successor .ensures, c .before .before .before .before .before .before .wide .ensures) (let a = c .before .before .before .before .before .before .before .before .args in branch (a .sheet .now) (a .a) (a .routine) (a .depth) (a .marked) (a .target) (a .tests))))
+    (λ c. rw (c .first3 .ensures, c .before .first2 .ensures, c .before .before .first .ensures, c .before .before .before .bad-successor2 .ensures, c .before .before .before .before .wrapping-add-u8 .ensures, c .before .before .before .before .before .bad-successor .ensures, c .before .before .before .before .before .before .widen .ensures) (let a = c .before .before .before .before .before .before .before .before .args in branch (a .sheet .now) (a .a) (a .routine) (a .depth) (a .marked) (a .target) (a .tests))))

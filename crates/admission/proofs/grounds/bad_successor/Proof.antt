@@ -11,4 +11,4 @@ bad-successor-spec =
     (tie.spec
     (λ c κs. search needs)
     (λ c κs. search needs)
-    (λ c. rw (c .before .wide .ensures, c .before .before .before .before .word-at .ensures) refl))
+    (λ c. rw (c .before .widen .ensures, c .before .before .before .before .word-at .ensures) refl))

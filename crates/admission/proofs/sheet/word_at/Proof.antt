@@ -19,4 +19,4 @@ word-at-spec =
     (λ c. search needs)
     (λ c. search needs)
     (λ c κs. search needs)
-    (λ c. rw (c .parts .ensures, c .before .wide2 .ensures, c .before .before .byte-at2 .ensures, c .before .before .before .wide .ensures, c .before .before .before .before .byte-at .ensures)))
+    (λ c. rw (c .parts .ensures, c .before .widen2 .ensures, c .before .before .byte-at2 .ensures, c .before .before .before .widen .ensures, c .before .before .before .before .byte-at .ensures)))
