@@ -23,7 +23,7 @@ pub fn run(lent: Lent<'_>, budget: u32, start: State) -> Result<Report, RunRefus
         let at = usize::from(pc);
         let (opcode, argument) = (opcodes[at], arguments[at]);
         let [d, a, b] = [opcode >> 2, opcode, argument].map(|field| usize::from(field & 3));
-        let (function, address) = (argument >> 4, usize::from(argument));
+        let address = usize::from(argument);
         let mut next = pc.wrapping_add(1);
         let mut jump_if = |condition| {
             if condition {
@@ -40,9 +40,9 @@ pub fn run(lent: Lent<'_>, budget: u32, start: State) -> Result<Report, RunRefus
             0x30 | 0x31 | 0x36 | 0x37 if flags.v == Overflow::Unsettled => break Stop::Unsettled,
             0x38 | 0x39 | 0x3A | 0x3B if room.len() == 0 => break Stop::Full,
 
-            0x00 | 0x01 | 0x02 | 0x03 => { regs[d] = flags.compute(function, regs[a], regs[b]); 4 }
+            0x00 | 0x01 | 0x02 | 0x03 => { regs[d] = flags.alu(argument >> 4, regs[a], regs[b]); 4 }
             0x04 | 0x05 | 0x06 | 0x07 => { regs[d] = flags.add(regs[a], argument, false); 4 }
-            0x08 => { flags.compute(function, regs[a], regs[b]); 3 }
+            0x08 => { flags.alu(argument >> 4, regs[a], regs[b]); 3 }
             0x09 => { flags.sub(regs[a], argument, false); 3 }
             0x0A => { flags.bits(regs[a] & argument); 3 }
             0x0B => { flags.bits(key(keys, position) & argument); 5 }

@@ -8,7 +8,7 @@ use crate::{Flags, Overflow};
 impl Flags {
     /// The result of the function that the low four bits of a number name.
     #[inline(always)]
-    pub(crate) fn compute(&mut self, function: u8, x: u8, y: u8) -> u8 {
+    pub(crate) fn alu(&mut self, function: u8, x: u8, y: u8) -> u8 {
         match function & 15 {
             0 => self.bits(y),
             1 => self.add(x, y, false),
