@@ -48,6 +48,7 @@
 mod answers;
 mod ground;
 mod machine;
+mod parts;
 pub mod plain;
 pub mod predecoded;
 mod raw;

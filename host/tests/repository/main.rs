@@ -1,0 +1,14 @@
+//! The repository's own texts: what it promises, where a promise could vanish quietly.
+//!
+//! Each check yields findings with file and line, and the parsers are shown texts in which there
+//! is something to find.
+
+mod contracts;
+mod edits;
+mod finding;
+mod functions;
+mod imports;
+mod numbers;
+mod promises;
+mod source;
+mod table;
