@@ -102,6 +102,23 @@ module _ (c : Call) where
   unfolding callOf
   run-promise = by-precheck (refusalOf c) (λ r e. rw e (refused-promise r e)) (λ e. rw e (ran-promise e))
 
+-- a call that breaks no rule passes and is run; one that fails is refused
+pub checks-pass : (c : Call) → NoneBroken (runChecks c) → refusalOf c ≡ Passed
+unfolding refusalOf
+checks-pass c p = passes (causes c) p
+
+pub passed-checks : (c : Call) → refusalOf c ≡ Passed → NoneBroken (runChecks c)
+unfolding refusalOf
+passed-checks c e = none-given (causes c) e
+
+pub passed-call : (c : Call) → refusalOf c ≡ Passed → callOf c ≡ reported (runOf (c .setting) (c .budget) (machineOf c))
+unfolding callOf
+passed-call c e = rw e
+
+pub failed-call : (c : Call) (r : Refusal) → refusalOf c ≡ Failed r → callOf c ≡ refusedOf r c
+unfolding callOf
+failed-call c r e = rw e
+
 -- a call that passes has a budget within its limit
 pub passed-budget : (c : Call) → refusalOf c ≡ Passed → c .budget ≤ maxBudget
 unfolding refusalOf
