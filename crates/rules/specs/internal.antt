@@ -1,2 +1,2 @@
--- Definitions that only contracts of functions and their proofs cite; no promise to a user rests on them.
+-- Definitions that only contracts of admission's internal functions cite; no promise to a user rests on them.
 pub mod Scans
