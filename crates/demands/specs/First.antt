@@ -53,8 +53,11 @@ pub data FourStops : ℕ → Type 0 where
   full : FourStops 3
 
 -- "with the lent memory unchanged and only the number handed back"
+abbrev pub onlyNumber : ℕ → Call → RunNumbers
+onlyNumber number c = (number, 0, 0, 0, 0, stateNumbers (c .state))
+
 pub record NothingBut (number : ℕ) (c : Call) (r : RunNumbers) (ram stack roll : List ℕ) : Type 0 where
-  pub report : r ≡ (number, 0, 0, 0, 0, stateNumbers (c .state))
+  pub report : r ≡ onlyNumber number c
   pub ram-kept : ram ≡ c .ram
   pub stack-kept : stack ≡ c .stack
   pub roll-kept : roll ≡ c .roll

@@ -12,15 +12,16 @@ use Rattle.isa.specs.Facts.{writesRoll}
 use Rattle.isa.specs.Table.{cyclesOf}
 use Rattle.isa.specs.declared.Instr.{Instr}
 use Rattle.model.specs.Plan.{planOf}
-use Rattle.model.specs.Run.{testsOverflow, firstStop, verdictOf, verdictAt, Attempt, attempt, attemptOf, stepsBy}
+use Rattle.model.specs.Run.{testsOverflow, firstStop, verdictOf, verdictAt, attempt, attemptOf, stepsBy}
 use Rattle.model.specs.Step.{Setting, setting, Machine, machineAt, instrAt, fetched, appliedOf, stepOf}
 use Rattle.model.specs.declared.State.{State}
 use Rattle.model.specs.declared.Stop.{Stop}
 use Rattle.model.specs.declared.Stop.the-variants.{Halted}
 use Rattle.model.specs.declared.Verdict.{Verdict}
 use Rattle.model.specs.declared.Verdict.the-variants.{Go, Stopped}
+use Rattle.model.proofs.Attempt.{attempt-verdict, attempt-made, attempt-prevented}
 use Rattle.model.proofs.Counts.{recounted, verdict-recounted, step-recounted}
-use Rattle.model.proofs.Runs.{by-verdict, some-left}
+use Rattle.model.proofs.Runs.{some-left}
 use Rattle.effects.specs.internal.Effects.{planBy, testsBy, sendsBy, Behavior, behaviorBy, behaviorOf}
 use Rattle.effects.specs.declared.Action.{Action}
 use Rattle.effects.specs.declared.Effect.{Effect}
@@ -103,19 +104,13 @@ module _ (x : Setting) (s s′ : State) (ram stack roll ram′ stack′ roll′ 
 
   module _ (a : attempt v n (after (stepsBy v) n) ≡ attemptOf x (before 0 0)) where
     verdict-is : v ≡ verdictAt x 1 (before 0 0)
-    unfolding attemptOf
-    verdict-is =
-        by-verdict (verdictAt x 1 (before 0 0))
-        (λ y e. let q = rw e at a in ap (λ (t : Attempt). t .verdict) q ∙ sym e)
-        (λ e. let q = rw e at a in ap (λ (t : Attempt). t .verdict) q ∙ sym e)
+    verdict-is = attempt-verdict x (before 0 0) (after (stepsBy v) n) v n a
 
     made : v ≡ Go → after 1 n ≡ stepOf x (before 0 0)
-    unfolding attemptOf
-    made q = let b = rw (← verdict-is, q) at a in ap (λ (t : Attempt). t .machine) b
+    made q = let e = attempt-made x (before 0 0) (after (stepsBy v) n) v n a q .0 in rw q at e
 
     prevented : (y : Stop) → v ≡ Stopped y → after 0 n ≡ before 0 0
-    unfolding attemptOf
-    prevented y q = let b = rw (← verdict-is, q) at a in ap (λ (t : Attempt). t .machine) b
+    prevented y q = let e = attempt-prevented x (before 0 0) (after (stepsBy v) n) v n a y q .0 in rw q at e
 
     pub attempted : Attempted x before after v n
     attempted =

@@ -1,4 +1,5 @@
 -- Laws of steps and runs.
+pub mod Attempt
 pub mod Counts
 pub mod Kept
 pub mod Promises

@@ -1,11 +1,13 @@
+-- Both tables are computed.
+-- Assumes nothing.
+use Rattle.examples.proofs.Answered.{answered}
+use Rattle.examples.proofs.MarkedRows.{marked-rows}
+use borrow.Author.Needs.{needs}
 use Rattle.demands.proofs.examples.Statement.{statement}
 use Rattle.demands.proofs.examples.Tie as tie
-use Rattle.demands.proofs.examples.Reads as reads
-use Rattle.demands.proofs.examples.Lts as lts
-
--- src/lib.rt:100:1
-returns : tie.Need-returns
-returns c = ?
 
 pub examples-spec : {M : Type 1} → statement M
-examples-spec = tie.close (tie.spec returns)
+examples-spec =
+    tie.close
+    (tie.spec
+    (λ c. (marked-rows _, answered)))
