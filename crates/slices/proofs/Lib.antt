@@ -4,3 +4,4 @@ pub mod Below
 pub mod Bools
 pub mod Checks
 pub mod Lookup
+pub mod Parts

@@ -1,3 +1,4 @@
 pub mod Checks
 pub mod Lists
+pub mod Parts
 pub mod Sizes

@@ -1,6 +1,7 @@
 // Total reads and writes of lent bytes.
 ghost use mathlib.Core.Path.{_≡_};
-ghost use lib.ListN.{getD, set, take, drop};
+ghost use lib.ListN.{getD, set};
+ghost use Rattle.slices.specs.Parts.{partOf};
 
 // The bytes of a bank.
 pub const BANK_SIZE: usize = 256;
@@ -14,7 +15,7 @@ pub fn byte_at(s: &[u8], at: usize) -> u8
 
 // The n bytes from a place on, or as many of them as there are.
 pub fn part(s: &[u8], at: usize, n: usize) -> &[u8]
-    ensures { λ r. ⌜ now r ≡ take n (drop at (now (s .entry))) ⌝ }
+    ensures { λ r. ⌜ now r ≡ partOf (now (s .entry)) at n ⌝ }
 {
     if s.len() <= at {
         return &s[..0];
