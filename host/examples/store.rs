@@ -4,18 +4,18 @@
 #[path = "../tests/desk/cases/mod.rs"]
 mod cases;
 #[allow(dead_code)]
+#[path = "../tests/common/described.rs"]
+mod described;
+#[allow(dead_code)]
 #[path = "../tests/common/stored.rs"]
 mod stored;
-#[allow(dead_code)]
-#[path = "../tests/common/told.rs"]
-mod told;
 
 use std::fs;
 use std::io;
 
 fn main() -> io::Result<()> {
-    for told in told::told() {
-        fs::write(told::file(&told.name), told.listing.file())?;
+    for file in described::described() {
+        fs::write(described::file(&file.name), file.listing.file())?;
     }
     for (name, input) in cases::cases() {
         fs::write(stored::path("tests/desk").join(name).with_extension("in"), input)?;

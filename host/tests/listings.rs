@@ -1,14 +1,14 @@
 //! The stored listings beside their text in the README. `cargo run --example store` stores them.
 
+#[path = "common/described.rs"]
+mod described;
 #[path = "common/stored.rs"]
 mod stored;
-#[path = "common/told.rs"]
-mod told;
 
 use cesca_host::reference::{self, Listing};
 use cesca_host::{admit, Ground};
+use described::{described, file, Described};
 use stored::{names, path, read, text};
-use told::{file, told, Told};
 
 /// The answer that a printed text stands for.
 fn answer(printed: &str) -> Result<(), String> {
@@ -17,16 +17,16 @@ fn answer(printed: &str) -> Result<(), String> {
 }
 
 #[test]
-fn each_file_is_told() {
-    let mut wanted: Vec<String> = told().into_iter().map(|told| told.name).collect();
+fn each_file_is_described() {
+    let mut wanted: Vec<String> = described().into_iter().map(|file| file.name).collect();
     wanted.sort();
     assert_eq!(names(&path("../listings"), ".bin"), wanted);
     assert!(wanted.len() >= 7, "{wanted:?}");
 }
 
 #[test]
-fn each_file_holds_the_listing_that_is_told() {
-    for Told { name, listing, .. } in told() {
+fn each_file_holds_the_listing_that_is_described() {
+    for Described { name, listing, .. } in described() {
         assert!(read(&file(&name)) == listing.file(), "{name}.bin is another listing");
     }
 }
@@ -37,9 +37,9 @@ fn listing_a_is_the_papers() {
 }
 
 #[test]
-fn the_tables_show_what_is_told() {
+fn the_tables_show_what_is_described() {
     let readme = text(&path("../listings/README.md"));
-    for Told { name, printed, .. } in told() {
+    for Described { name, printed, .. } in described() {
         let start = format!("| [{name}.bin]");
         let row = readme.lines().find(|line| line.starts_with(&start)).expect("a row a file");
         let last = printed.lines().last().expect("a line");
@@ -52,15 +52,15 @@ fn the_tables_show_what_is_told() {
 }
 
 #[test]
-fn the_references_print_what_is_told() {
-    for Told { name, printed, .. } in told() {
+fn the_references_print_what_is_described() {
+    for Described { name, printed, .. } in described() {
         assert_eq!(reference::desk(&read(&file(&name))), printed, "{name}");
     }
 }
 
 #[test]
-fn the_library_answers_what_is_told() {
-    for Told { name, listing, printed } in told() {
+fn the_library_answers_what_is_described() {
+    for Described { name, listing, printed } in described() {
         let Listing { opcodes, arguments, sheet, list } = &listing;
         let found = admit(opcodes, arguments, sheet, list);
         assert_eq!(found.map_err(|ground: Ground| ground.to_string()), answer(&printed), "{name}");
@@ -68,8 +68,8 @@ fn the_library_answers_what_is_told() {
 }
 
 #[test]
-fn the_desk_prints_what_is_told() {
-    for Told { name, printed, .. } in told() {
+fn the_desk_prints_what_is_described() {
+    for Described { name, printed, .. } in described() {
         assert_eq!(stored::desk(&file(&name)), printed, "{name}");
     }
 }

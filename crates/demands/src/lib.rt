@@ -100,5 +100,4 @@ pub fn bytes_returned(opcode: u8, argument: u8) -> Encoding
 pub fn examples(b: u8)
     ensures marked { λ _. ⌜ Marked b ⌝ }
     ensures answered { λ _. ⌜ Answered ⌝ }
-{
-}
+{}

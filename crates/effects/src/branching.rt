@@ -50,14 +50,22 @@ pub fn branch_effect(s: State, c: BranchOutcome) -> Effect
 fn when(b: bool, a: u8) -> BranchOutcome
     ensures { λ r. ⌜ Goes r Action.Nothing b a ⌝ }
 {
-    if b { BranchOutcome::Jump(a) } else { BranchOutcome::Next }
+    if b {
+        BranchOutcome::Jump(a)
+    } else {
+        BranchOutcome::Next
+    }
 }
 
 // To an address, where a condition on V holds.
 fn when_tested(b: bool, a: u8) -> BranchOutcome
     ensures { λ r. ⌜ Goes r Action.TestV b a ⌝ }
 {
-    if b { BranchOutcome::TestedJump(a) } else { BranchOutcome::TestedNext }
+    if b {
+        BranchOutcome::TestedJump(a)
+    } else {
+        BranchOutcome::TestedNext
+    }
 }
 
 // V as a bool, false where it is unsettled.

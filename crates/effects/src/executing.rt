@@ -1,8 +1,8 @@
 // What each instruction does, as one function of forty arms: the next state, an action, and cycles.
 use super::Action;
 use super::Effect;
-use super::branching::branch_outcome;
 use super::branching::branch_effect;
+use super::branching::branch_outcome;
 use super::states;
 use super::states::register_of;
 use alu::Computed;

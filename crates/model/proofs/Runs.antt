@@ -52,9 +52,12 @@ module _ (x : Setting) where
   runs-on (suc j) n m =
       by-verdict (verdictAt x (suc j) m)
       (λ y e.
-      rw
-      (suc-add j (suc n), run-stops (suc (j + suc n)) m y (some-left (j + suc n) j m ∙ e), run-stops (suc j) m y e,
-      run-stops (suc n) m y (some-left n j m ∙ e)))
+      rw (
+        suc-add j (suc n),
+        run-stops (suc (j + suc n)) m y (some-left (j + suc n) j m ∙ e),
+        run-stops (suc j) m y e,
+        run-stops (suc n) m y (some-left n j m ∙ e),
+      ))
       (λ e. rw (suc-add j (suc n), run-goes (j + suc n) m (some-left (j + suc n) j m ∙ e), run-goes j m e) (runs-on j n (stepOf x m)))
 
   -- what it leaves, without a case on the stop

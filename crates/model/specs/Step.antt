@@ -25,7 +25,8 @@ pub record Setting : Type 0 where
 abbrev pub setting : List ℕ → List ℕ → List ℕ → Setting
 setting ops args keys = record { program = record { opcodes = ops; arguments = args }; keys = keys }
 
--- what a run changes, the stack bank aside: state, data bank, roll, and what was counted in this run: roll words, steps, cycles
+-- what a run changes, the stack bank aside: state, data bank, roll, and what was counted in this run: roll words, steps, cycles. The roll is
+-- 01's term for the words sent to the display
 pub record Core : Type 0 where
   pub state : State
   pub ram : List ℕ

@@ -6,6 +6,7 @@ pub const MAX_BUDGET: u32 = 1000000;
 
 // The clock in Hz, and the cycles, that a running time may be asked for.
 pub const MAX_CLOCK: u32 = 1000000;
+
 pub const MAX_CYCLES: u32 = 8000000;
 
 // The machine's state: R0 to R3, PC, SP, the output register, the flags, whether it is halted, and

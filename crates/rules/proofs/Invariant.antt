@@ -206,12 +206,14 @@ module _ (L : Listing) where
     step-safe keys {row} {m} l =
         let s = m .core .state in
         let i = instrAt (L .program) (s .pc) in
-        let h = class-safe m (stepOf (settingOf L keys) m) (classAt L (s .pc)) l (A .rules (s .pc) (l .at-described)) (acts s (topOf m) (m .core .ram) keys i) (stores s (topOf m) (m .core .ram) keys i (m .stack)) in
-        (record {
-          own-program = refl;
-          at-described = l .at-described;
-          last-fits = h .last-fits;
-          within-need = h .within-need;
-          sp-is = h .sp-is;
-          sp-moves = h .sp-moves;
-        }, h .safe)
+        let h = class-safe m (stepOf (settingOf L keys) m) (classAt L (s .pc)) l (A .rules (s .pc) (l .at-described)) (acts s (topOf m) (m .core .ram) keys i) (stores s (topOf m) (m .core .ram) keys i (m .stack)) in (
+          record {
+            own-program = refl;
+            at-described = l .at-described;
+            last-fits = h .last-fits;
+            within-need = h .within-need;
+            sp-is = h .sp-is;
+            sp-moves = h .sp-moves;
+          },
+          h .safe,
+        )

@@ -1,4 +1,4 @@
--- 01, 'The stack sheet': the words of the sheet and the routine list of a listing.
+-- 01, 'The stack sheet': the words of the sheet and the routine list of a listing. Listing, sheet, routine, depth and need are 01's terms.
 -- Assumes nothing.
 use Prim.Native.Nat.{ℕ, _+_, _*_, _/_, _%_}
 use mathlib.Core.List.{List}

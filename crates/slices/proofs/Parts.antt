@@ -25,44 +25,44 @@ pub replaced-same : (l : List ℕ) (a n : ℕ) → replaced l a n (partOf l a n)
 unfolding replaced
 replaced-same l a n = rw (take-append-drop n (drop a l), take-append-drop a l)
 
-module _ (l : List ℕ) (a n : ℕ) (others : List ℕ) (fits : a + n ≤ length l) (long : length others ≡ n) where
+module _ (l : List ℕ) (a n : ℕ) (inserted : List ℕ) (fits : a + n ≤ length l) (long : length inserted ≡ n) where
   before-long : length (take a l) ≡ a
   before-long = length-take-le a l (omega arith)
 
-  pub part-replaced : partOf (replaced l a n others) a n ≡ others
+  pub part-replaced : partOf (replaced l a n inserted) a n ≡ inserted
   unfolding replaced
-  part-replaced = rw (drop-at (take a l) (others ++ drop n (drop a l)) a before-long, take-at others (drop n (drop a l)) n long)
+  part-replaced = rw (drop-at (take a l) (inserted ++ drop n (drop a l)) a before-long, take-at inserted (drop n (drop a l)) n long)
 
-  pub part-before : (b k : ℕ) → b + k ≤ a → partOf (replaced l a n others) b k ≡ partOf l b k
+  pub part-before : (b k : ℕ) → b + k ≤ a → partOf (replaced l a n inserted) b k ≡ partOf l b k
   unfolding replaced
   part-before b k h =
       let e : length (take a l) ≡ a = before-long in
       let h₁ : b + k ≤ length (take a l) = omega arith in
-      part-of-front (take a l) (others ++ drop n (drop a l)) b k h₁
+      part-of-front (take a l) (inserted ++ drop n (drop a l)) b k h₁
       ∙ sym (part-of-front (take a l) (drop a l) b k h₁)
       ∙ ap (λ (x : List ℕ). partOf x b k) (take-append-drop a l)
 
-  head-long : length (take a l ++ others) ≡ a + n
+  head-long : length (take a l ++ inserted) ≡ a + n
   head-long =
       let e : length (take a l) ≡ a = before-long in
-      length-append (take a l) others ∙ (omega arith)
+      length-append (take a l) inserted ∙ (omega arith)
 
-  pub part-after : (b k : ℕ) → a + n ≤ b → partOf (replaced l a n others) b k ≡ partOf l b k
+  pub part-after : (b k : ℕ) → a + n ≤ b → partOf (replaced l a n inserted) b k ≡ partOf l b k
   unfolding replaced
   part-after b k h =
-      let e : length (take a l ++ others) ≡ a + n = head-long in
+      let e : length (take a l ++ inserted) ≡ a + n = head-long in
       let j : ℕ = b - (a + n) in
-      let q : b ≡ length (take a l ++ others) + j = omega arith in
+      let q : b ≡ length (take a l ++ inserted) + j = omega arith in
       let r : a + (n + j) ≡ b = omega arith in
-      ap (λ (x : List ℕ). partOf x b k) (sym (append-assoc (take a l) others (drop n (drop a l))))
-      ∙ ap (λ (x : ℕ). partOf ((take a l ++ others) ++ drop n (drop a l)) x k) q
-      ∙ ap (λ (x : List ℕ). take k x) (drop-append-add (take a l ++ others) (drop n (drop a l)) j ∙ drop-drop j n (drop a l) ∙ drop-drop (n + j) a l)
+      ap (λ (x : List ℕ). partOf x b k) (sym (append-assoc (take a l) inserted (drop n (drop a l))))
+      ∙ ap (λ (x : ℕ). partOf ((take a l ++ inserted) ++ drop n (drop a l)) x k) q
+      ∙ ap (λ (x : List ℕ). take k x) (drop-append-add (take a l ++ inserted) (drop n (drop a l)) j ∙ drop-drop j n (drop a l) ∙ drop-drop (n + j) a l)
       ∙ ap (λ (x : ℕ). partOf l x k) r
 
-  pub length-replaced : length (replaced l a n others) ≡ length l
+  pub length-replaced : length (replaced l a n inserted) ≡ length l
   unfolding replaced
   length-replaced =
       let e : length (take a l) ≡ a = before-long in
       let f : length (drop n (drop a l)) ≡ length l - a - n = length-drop n (drop a l) ∙ ap (λ (x : ℕ). x - n) (length-drop a l) in
-      let g : length (others ++ drop n (drop a l)) ≡ length others + length (drop n (drop a l)) = length-append others (drop n (drop a l)) in
-      length-append (take a l) (others ++ drop n (drop a l)) ∙ omega arith
+      let g : length (inserted ++ drop n (drop a l)) ≡ length inserted + length (drop n (drop a l)) = length-append inserted (drop n (drop a l)) in
+      length-append (take a l) (inserted ++ drop n (drop a l)) ∙ omega arith

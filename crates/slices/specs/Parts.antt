@@ -8,6 +8,6 @@ use lib.ListN.{take, drop}
 abbrev pub partOf : List ℕ → (at n : ℕ) → List ℕ
 partOf l at n = take n (drop at l)
 
--- l, with others in the place of its n elements from a place on
+-- l, with inserted in the place of its n elements from a place on
 unfoldable pub replaced : List ℕ → (at n : ℕ) → List ℕ → List ℕ
-replaced l at n others = take at l ++ (others ++ drop n (drop at l))
+replaced l at n inserted = take at l ++ (inserted ++ drop n (drop at l))

@@ -5,7 +5,7 @@ use cesca_host::reference::Listing;
 use std::path::PathBuf;
 
 /// What a section of the README tells of a file.
-pub struct Told {
+pub struct Described {
     /// Its name, without the ending.
     pub name: String,
     /// The listing that it holds.
@@ -16,14 +16,14 @@ pub struct Told {
 
 /// The sections whose heading names a file: in the first block the listing, in the second what
 /// the desk prints.
-pub fn told() -> Vec<Told> {
+pub fn described() -> Vec<Described> {
     let readme = text(&path("../listings/README.md"));
     let sections = readme.split("\n## ").skip(1).filter_map(|section| {
         let (name, rest) = section.split_once(".bin\n")?;
         let mut blocks = rest.split("```").skip(1).step_by(2);
         let mut block = || blocks.next()?.strip_prefix("text\n");
         let (listing, printed) = (Listing::read(block()?), block()?.to_string());
-        Some(Told { name: name.to_string(), listing, printed })
+        Some(Described { name: name.to_string(), listing, printed })
     });
     sections.collect()
 }
