@@ -13,8 +13,8 @@ use Rattle.model.specs.declared.State.{State}
 use Rattle.rules.specs.Grounds.{admitOf}
 use Rattle.rules.specs.Sheet.{listing, need}
 use Rattle.admission.specs.Admission.{Admission}
-use Rattle.report.specs.Answered.{RunEndsWell, Answered}
-use Rattle.report.specs.Desk.{partOf, listingIn, deskCall, ranOf, ranText, textBy, deskText, deskRoom}
+use Rattle.report.specs.Answered.{RunEnds, Answered}
+use Rattle.report.specs.Desk.{partOf, listingIn, deskCall, ranOf, ranText, textBy, deskText, answerRoom}
 use Rattle.report.specs.Lines.{refusedLine, admittedLine}
 use Rattle.report.specs.Page.{Page, page, Written}
 use Rattle.report.proofs.Pages.{written-same, write-within, write-whole}
@@ -38,12 +38,12 @@ module _ (input o g s l : List ℕ) (eo : o ≡ partOf input 0 256) (eg : g ≡ 
   unfolding need
   admitted-text z b e = ap (λ (k : ℕ). admittedLine k ++ ranText (ranOf o g)) e ∙ sym (rw (eq-eqb n 0 z)) ∙ parts-text
 
-  pub ends : RunEndsWell (listingIn input)
+  pub ends : RunEnds (listingIn input)
   ends = rw (← eo, ← eg, ← es, ← el) (run-ends (listing o g s l) (λ e. a .third (a .answers ∙ e)))
 
 -- a text that was written from the beginning ends within the buffer, and is whole where there is room
-pub answered : {input before after t : List ℕ} {n : ℕ} → Written deskRoom t (page before 0) (page after n) → t ≡ deskText input
-    → RunEndsWell (listingIn input) → Answered input before after n
+pub answered : {input before after t : List ℕ} {n : ℕ} → Written answerRoom t (page before 0) (page after n) → t ≡ deskText input
+    → RunEnds (listingIn input) → Answered input before after n
 answered {input} {before} v e ends =
     let w = written-same v e in
     let s = w .short in
@@ -58,5 +58,5 @@ answered {input} {before} v e ends =
     }
 
 -- the bytes that were answered, `out[..n]`, are then the text
-pub answered-bytes : {input before after : List ℕ} {n : ℕ} → Answered input before after n → deskRoom ≤ length before → take n after ≡ deskText input
+pub answered-bytes : {input before after : List ℕ} {n : ℕ} → Answered input before after n → answerRoom ≤ length before → take n after ≡ deskText input
 answered-bytes {input} a room = let w = a .whole room in rw (w .0, w .1) (take-append-seam (deskText input) _)

@@ -1,10 +1,12 @@
 -- An admitted listing's run on the desk is halted or spent. It is not refused: admission asked for banks of 256 bytes. It isn't unsettled, by the
 -- third demand for the list of this one run. And the roll is never full, having a word for each step of the budget.
 -- Assumes nothing.
+use Prim.Native.Nat.{_≤_}
+use native.Mathlib.Omega.{arith}
 use mathlib.Core.Path.{_≡_, refl}
 use mathlib.Core.Bool.{true}
 use mathlib.Core.List.{List, [], _∷_}
-use lib.Dec.{eqb, lit≤}
+use lib.Dec.{eqb}
 use lib.ListN.{length, replicate}
 use borrow.Author.Tests.{not-false}
 use Rattle.model.proofs.NeverFull.{never-full}
@@ -21,7 +23,7 @@ use Rattle.rules.proofs.AdmittedRules.{numbered-checks}
 use Rattle.slices.proofs.Bools.{both}
 use Rattle.slices.proofs.Checks.{none-broken}
 use Rattle.slices.specs.Sizes.{bankSize}
-use Rattle.report.specs.Answered.{HaltedOrSpent, RunEndsWell}
+use Rattle.report.specs.Answered.{DeskStop, RunEnds}
 use Rattle.report.specs.Desk.{rollSize, budget, deskCall, ranOf}
 
 -- the desk's snapshot and run, as a list of one
@@ -34,7 +36,7 @@ deskRun = record { start = resume; opcodes = own; arguments = own; ram = own; st
 starts : Starts deskSnapshot
 starts = record { regs = _; z = _; c = _; s = _; state = refl; stack-long = refl }
 
-two-left : (y : Stop) → (y ≡ Unsettled → ⊥) → (y ≡ Full → ⊥) → HaltedOrSpent y
+two-left : (y : Stop) → (y ≡ Unsettled → ⊥) → (y ≡ Full → ⊥) → DeskStop y
 two-left Halted u f = tt
 two-left Spent u f = tt
 two-left Unsettled u f = u refl
@@ -49,10 +51,12 @@ module _ (L : Listing) where
   unfolding refusalOf
   passes e = let b = good-banks e in rw (b .0, b .1)
 
-  pub run-ends : (admitOf L ≡ 0 → (w : Snapshot) → Starts w → (rs : List ListedRun) → Holds L w rs) → RunEndsWell L
+  pub run-ends : (admitOf L ≡ 0 → (w : Snapshot) → Starts w → (rs : List ListedRun) → Holds L w rs) → RunEnds L
   unfolding ranOf callOf outcomes outcomeOf
   run-ends third e =
       let p = passes e in
       let u = third e deskSnapshot starts (deskRun ∷ []) .none-unsettled .0 in
+      let room : budget ≤ rollSize = omega arith in
       rw p
-      (two-left _ (rw p at u) (never-full _ budget (machineOf (deskCall (L .program .opcodes) (L .program .arguments) startState)) (lit≤ tt)))
+      (two-left _ (rw p at u)
+      (never-full _ budget (machineOf (deskCall (L .program .opcodes) (L .program .arguments) startState)) room))

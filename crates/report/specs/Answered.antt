@@ -11,23 +11,25 @@ use Rattle.model.specs.declared.Stop.{Stop}
 use Rattle.model.specs.declared.Stop.the-variants.{Halted, Spent, Unsettled, Full}
 use Rattle.rules.specs.Grounds.{admitOf}
 use Rattle.rules.specs.Sheet.{Listing}
-use Rattle.report.specs.Desk.{listingIn, ranOf, deskText, deskRoom}
+use Rattle.report.specs.Desk.{listingIn, ranOf, deskText, answerRoom}
 use Rattle.report.specs.Page.{page, writeOf}
 use Rattle.report.specs.Printed.{Printed}
 
--- "halted steps 8 ..; the other stop word is `spent`": no other stop, and no refusal
-abbrev pub HaltedOrSpent : Stop → Type 0
-HaltedOrSpent Halted = Unit {0}
-HaltedOrSpent Spent = Unit {0}
-HaltedOrSpent Unsettled = ⊥
-HaltedOrSpent Full = ⊥
+-- "the other stop word is `spent`": the desk prints no third one
+abbrev pub DeskStop : Stop → Type 0
+DeskStop Halted = Unit {0}
+DeskStop Spent = Unit {0}
+DeskStop Unsettled = ⊥
+DeskStop Full = ⊥
 
-abbrev pub EndsWell : Answer → Type 0
-EndsWell (Refused x) = ⊥
-EndsWell (Ran stop steps cycles words) = HaltedOrSpent stop
+-- nor is the run refused
+abbrev pub HaltedOrSpent : Answer → Type 0
+HaltedOrSpent (Refused x) = ⊥
+HaltedOrSpent (Ran stop steps cycles words) = DeskStop stop
 
-abbrev pub RunEndsWell : Listing → Type 0
-RunEndsWell L = admitOf L ≡ 0 → EndsWell (ranOf (L .program .opcodes) (L .program .arguments) .answer)
+-- an admitted listing's run is halted or spent
+abbrev pub RunEnds : Listing → Type 0
+RunEnds L = admitOf L ≡ 0 → HaltedOrSpent (ranOf (L .program .opcodes) (L .program .arguments) .answer)
 
 -- what an answer of n bytes leaves in a lent buffer
 pub record Answered (input before after : List ℕ) (n : ℕ) : Type 0 where
@@ -35,9 +37,8 @@ pub record Answered (input before after : List ℕ) (n : ℕ) : Type 0 where
   pub text : page after n ≡ writeOf (deskText input) (page before 0)
   pub within : n ≤ length after
   -- where there is room for any answer, n bytes are the whole text
-  pub whole : deskRoom ≤ length before
+  pub whole : answerRoom ≤ length before
       → (n ≡ length (deskText input)) × (after ≡ deskText input ++ drop (length (deskText input)) before)
-  -- an admitted listing's run is halted or spent
-  pub ends : RunEndsWell (listingIn input)
+  pub ends : RunEnds (listingIn input)
   -- the lines are 01's
   pub printed : Printed

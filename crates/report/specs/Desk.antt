@@ -71,5 +71,5 @@ unfoldable pub deskText : List ℕ → List ℕ
 deskText input = textOf (listingIn input)
 
 -- room for any answer: for an admitted listing's two lines, 25 + 74, and so for a refused one's
-abbrev pub deskRoom : ℕ
-deskRoom = 99
+abbrev pub answerRoom : ℕ
+answerRoom = 99

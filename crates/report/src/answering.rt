@@ -11,7 +11,7 @@ ghost use mathlib.Core.Path.{_≡_};
 ghost use Prim.Native.Nat.{_≤_};
 ghost use lib.ListN.{length, take};
 ghost use Rattle.report.specs.Answered.{Answered};
-ghost use Rattle.report.specs.Desk.{inputSize, ranOf, ranLine, ranText, deskText, deskRoom};
+ghost use Rattle.report.specs.Desk.{inputSize, ranOf, ranLine, ranText, deskText, answerRoom};
 ghost use Rattle.report.specs.Lines.{runRoom};
 ghost use Rattle.report.specs.Page.{page, Written};
 
@@ -25,16 +25,19 @@ pub const ANSWER_ROOM: usize = 99;
 // The bytes of a stack sheet: a word for each address.
 const SHEET_SIZE: usize = 512;
 
-// Where the sheet and the list begin in an input, and the bytes that are left for the list.
+// Where the sheet begins in an input.
 const SHEET_AT: usize = 2 * BANK_SIZE;
 
+// Where the list begins.
 const LIST_AT: usize = SHEET_AT + SHEET_SIZE;
 
+// The bytes that are left for the list.
 const LIST_ROOM: usize = INPUT_SIZE - LIST_AT;
 
-// The desk's roll and its budget. The roll is never full, since a step writes one word at most.
+// The words of the desk's roll: one for each step of the budget, so that it is never full.
 const ROLL_SIZE: usize = 1000;
 
+// The steps that the desk lets a program make.
 const BUDGET: u32 = 1000;
 
 // The line of a run's answer is written from a place on, none of a refusal; the place after it.
@@ -91,7 +94,7 @@ pub fn answer(input: &[u8], out: &mut [u8]) -> usize
 // for any answer.
 pub fn answer_read(buffer: &[u8], read: usize, out: &mut [u8]) -> usize
     requires { ⌜ length (now buffer) ≡ inputSize ⌝ }
-    requires { ⌜ deskRoom ≤ length (now out) ⌝ }
+    requires { ⌜ answerRoom ≤ length (now out) ⌝ }
     ensures { λ r. ⌜ Answered (take read (now (buffer .entry))) (now (out .entry)) (now (out .exit)) r ⌝ }
     ensures { λ r. ⌜ take r (now (out .exit)) ≡ deskText (take read (now (buffer .entry))) ⌝ }
 {
