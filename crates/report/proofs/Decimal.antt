@@ -1,4 +1,4 @@
--- The digits of a number: what the last one adds, that they are read as the number, that no 0 leads, and how many there are.
+-- The digits of a number: what the last one adds, that they are digits, read as the number, that no 0 leads, and how many there are.
 -- Assumes nothing.
 use mathlib.Core.Path.{_≡_, refl, sym, ap, _∙_}
 use mathlib.Core.List.{List, [], _∷_, _++_}
@@ -8,7 +8,8 @@ use lib.ListN.{length, getD, length-append}
 use lib.Dec.{ltb}
 use borrow.Author.Tests.{ltb-true, ltb-false}
 use Rattle.slices.proofs.Bools.{by-test}
-use Rattle.report.specs.Lines.{digit, digits, decimal, mostDigits, readOn, value}
+use Rattle.report.specs.Lines.{digit, digits, decimal, mostDigits, readOn, value, AllDigits, DecimalWritten}
+use Rattle.report.specs.Page.{Page, writeOf}
 
 none : (most : ℕ) → digits most 0 ≡ []
 unfolding digits
@@ -59,9 +60,23 @@ value-digits (suc most) (suc n) l =
     read-last 0 (digits most (suc n / 10)) (digit (suc n)) ∙ made-up (suc n) _ (value-digits most (suc n / 10) (omega arith))
 
 -- the digits of n are read as n
-pub value-decimal : (n : ℕ) → value (decimal n) ≡ n
+value-decimal : (n : ℕ) → value (decimal n) ≡ n
 unfolding decimal
 value-decimal n = read-last 0 (digits n (n / 10)) (digit n) ∙ made-up n _ (value-digits n (n / 10) (omega arith))
+
+digit-behind : (xs : List ℕ) (n : ℕ) → AllDigits xs → AllDigits (xs ++ (digit n ∷ []))
+digit-behind [] n a = (omega arith, omega arith, tt)
+digit-behind (x ∷ xs) n (a, b, d) = (a, b, digit-behind xs n d)
+
+all-in : (most n : ℕ) → AllDigits (digits most n)
+unfolding digits
+all-in zero n = tt
+all-in (suc most) zero = tt
+all-in (suc most) (suc n) = digit-behind (digits most (suc n / 10)) (suc n) (all-in most (suc n / 10))
+
+all-digits : (n : ℕ) → AllDigits (decimal n)
+unfolding decimal
+all-digits n = digit-behind (digits n (n / 10)) n (all-in n (n / 10))
 
 -- what leads still leads with more behind it
 leads-on : (ds ys : List ℕ) → 49 ≤ getD ds 0 0 → 49 ≤ getD (ds ++ ys) 0 0
@@ -82,7 +97,7 @@ leads (suc most) (suc n) a b =
     leads-of most (suc n / 10) (digit (suc n)) (λ e. omega arith) (λ l. leads most (suc n / 10) l (omega arith))
 
 -- the first digit of a number that is not 0 is at least "1"
-pub no-leading-zero : (n : ℕ) → 0 < n → 49 ≤ getD (decimal n) 0 0
+no-leading-zero : (n : ℕ) → 0 < n → 49 ≤ getD (decimal n) 0 0
 no-leading-zero n l = rw (← digits-decimal n n l (omega arith)) (leads n n l (omega arith))
 
 -- ten, and k times ten times that
@@ -100,5 +115,15 @@ digits-below (suc k) n l =
     rw (more-digits n (ltb-false n 10 e), length-append (decimal (n / 10)) (digit n ∷ [])) (omega arith))
 
 -- a number of 32 bits has at most ten digits
-pub decimal-short : (n : ℕ) → n < 4294967296 → length (decimal n) ≤ mostDigits
+decimal-short : (n : ℕ) → n < 4294967296 → length (decimal n) ≤ mostDigits
 decimal-short n l = let h : n < 10000000000 = omega arith in digits-below 9 n h
+
+-- a number of 32 bits written in decimal
+pub decimal-written : (n : ℕ) → n < 4294967296 → (p : Page) {q : Page} → q ≡ writeOf (decimal n) p → DecimalWritten n p q
+decimal-written n l p e =
+    record {
+      text = record { left = e; short = decimal-short n l };
+      all-digits = all-digits n;
+      reads-back = value-decimal n;
+      no-leading-zero = no-leading-zero n;
+    }

@@ -3,3 +3,4 @@ pub mod Decimal
 pub mod DeskTexts
 pub mod Pages
 pub mod Printed
+pub mod RunEnds

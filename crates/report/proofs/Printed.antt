@@ -1,26 +1,29 @@
--- The lines that 01 shows, and some like them, byte for byte.
+-- The lines that 01 shows, computed: listing A is admitted, and its run makes eight steps.
 -- Assumes nothing.
-use mathlib.Core.Path.{_≡_, refl}
+use mathlib.Core.Path.{_≡_, refl, _∙_}
 use mathlib.Core.List.{_++_}
-use Rattle.model.specs.declared.Stop.the-variants.{Halted, Spent}
+use Rattle.alu.specs.Alu.{aluOf, sumOf, differenceOf, settlesOf}
+use Rattle.isa.specs.Decode.{formOf, decodeOf}
+use Rattle.model.specs.Run.{verdictOf, runOf, refusalOf, callOf}
+use Rattle.model.specs.Step.{instrAt, appliedOf, stepOf}
+use Rattle.model.specs.declared.Stop.the-variants.{Halted}
+use Rattle.rules.specs.Grounds.{each, find, callee, badBlank, badRoutine, badEntry, addressChecks, checks, admitOf}
+use Rattle.rules.specs.Sheet.{word, described, marked, routine, depth, routines, entry, need}
+use Rattle.slices.specs.Checks.{firstBroken}
+use Rattle.report.specs.Desk.{ranOf, deskText}
 use Rattle.report.specs.Lines.{ascii, digits, decimal, numbered, refusedLine, admittedLine, stopWord, runLine}
+use Rattle.report.specs.Printed.{inputA, Printed}
 
-pub listing-a : admittedLine 2 ++ runLine Halted 8 31 6 255 ≡ ascii "admitted need 2\nhalted steps 8 cycles 31 out 6 sp 255\n"
+-- what admission and the run tell of listing A
+computed : deskText inputA ≡ admittedLine 2 ++ runLine Halted 8 31 6 255
+unfolding deskText ranOf admitOf checks addressChecks each firstBroken find callee badBlank badRoutine badEntry word described marked routine depth routines entry need instrAt decodeOf formOf settlesOf aluOf sumOf differenceOf verdictOf runOf refusalOf callOf appliedOf stepOf
+computed = refl
+
+-- the two lines of that
+lines : admittedLine 2 ++ runLine Halted 8 31 6 255 ≡ ascii "admitted need 2\nhalted steps 8 cycles 31 out 6 sp 255\n"
 unfolding digits decimal numbered admittedLine stopWord runLine
-listing-a = refl
+lines = refl
 
-pub spent-run : runLine Spent 1000 4000 0 254 ≡ ascii "spent steps 1000 cycles 4000 out 0 sp 254\n"
-unfolding digits decimal numbered stopWord runLine
-spent-run = refl
-
-pub refused-15 : refusedLine 15 1 ≡ ascii "refused 15 at 1\n"
-unfolding digits decimal numbered refusedLine
-refused-15 = refl
-
-pub refused-at-0 : refusedLine 3 0 ≡ ascii "refused 3 at 0\n"
-unfolding digits decimal numbered refusedLine
-refused-at-0 = refl
-
-pub largest : decimal 4294967295 ≡ ascii "4294967295"
-unfolding digits decimal
-largest = refl
+pub printed : Printed
+unfolding digits decimal numbered refusedLine stopWord runLine
+printed = record { listing-a = computed ∙ lines; spent-run = refl; refused-15 = refl; refused-at-0 = refl; largest = refl }

@@ -1,35 +1,56 @@
 -- What the desk prints for an input (01, 'Listing A and the edges').
 -- Assumes nothing.
-use Prim.Native.Nat.{ℕ, _/_, _%_, _≤_}
-use mathlib.Core.Path.{_≡_}
+use Prim.Native.Nat.{ℕ, _+_, _-_, _/_, _%_}
 use mathlib.Core.Bool.{cond}
 use mathlib.Core.List.{List, [], _++_}
 use lib.Dec.{eqb}
-use lib.ListN.{length, take, drop, replicate}
-use Rattle.model.specs.Run.{Outcome, callOf}
+use lib.ListN.{take, drop, replicate}
+use Rattle.model.specs.Run.{Outcome, Call, call, callOf}
 use Rattle.model.specs.State.{startState}
 use Rattle.model.specs.declared.Answer.{Answer}
 use Rattle.model.specs.declared.Answer.the-variants.{Refused, Ran}
 use Rattle.model.specs.declared.State.{State}
-use Rattle.rules.specs.Grounds.{admitOf}
+use Rattle.rules.specs.Grounds.{sheetSize, admitOf}
 use Rattle.rules.specs.Sheet.{Listing, listing, need}
+use Rattle.slices.specs.Sizes.{bankSize}
 use Rattle.report.specs.Lines.{refusedLine, admittedLine, runLine}
-use Rattle.report.specs.Page.{page, writeOf}
+
+-- "anything past 1,153 bytes is not read"
+abbrev pub inputSize : ℕ
+inputSize = 1153
 
 -- the n bytes from a place on, or as many of them as there are
 abbrev pub partOf : List ℕ → (at n : ℕ) → List ℕ
 partOf l at n = take n (drop at l)
 
--- "opcodes, arguments, sheet, then the list to the end; a short input leaves the later parts short, and anything past 1,153 bytes is not
--- read": 129 bytes are left for the list
+-- where the sheet and the list begin
+abbrev pub sheetAt : ℕ
+sheetAt = bankSize + bankSize
+
+abbrev pub listAt : ℕ
+listAt = sheetAt + sheetSize
+
+-- "opcodes, arguments, sheet, then the list to the end; a short input leaves the later parts short"
 abbrev pub listingIn : List ℕ → Listing
-listingIn input = listing (partOf input 0 256) (partOf input 256 256) (partOf input 512 512) (partOf input 1024 129)
+listingIn input =
+    listing (partOf input 0 bankSize) (partOf input bankSize bankSize) (partOf input sheetAt sheetSize)
+    (partOf input listAt (inputSize - listAt))
+
+-- "a roll of 1,000 words and budget 1,000"
+abbrev pub rollSize : ℕ
+rollSize = 1000
+
+abbrev pub budget : ℕ
+budget = 1000
 
 -- "runs from the start state with no keys, zero data and stack, a roll of 1,000 words and budget 1,000"
-unfoldable pub ranOf : (ops args : List ℕ) → Outcome
-ranOf ops args = callOf ops args [] 1000 startState (replicate 256 0) (replicate 256 0) (replicate 1000 0)
+abbrev pub deskCall : (ops args : List ℕ) → State → Call
+deskCall ops args s = call ops args [] budget s (replicate bankSize 0) (replicate bankSize 0) (replicate rollSize 0)
 
--- "halted steps 8 cycles 31 out 6 sp 255". A run of an admitted listing is not refused: its banks are of 256 bytes
+unfoldable pub ranOf : (ops args : List ℕ) → Outcome
+ranOf ops args = callOf (deskCall ops args startState)
+
+-- "halted steps 8 cycles 31 out 6 sp 255". A refusal has no line: `ends` of Answered.antt rules it out
 abbrev pub ranLine : Answer → State → List ℕ
 ranLine (Refused x) s = []
 ranLine (Ran stop steps cycles words) s = runLine stop steps cycles (s .out) (s .sp)
@@ -50,14 +71,5 @@ unfoldable pub deskText : List ℕ → List ℕ
 deskText input = textOf (listingIn input)
 
 -- room for any answer: for an admitted listing's two lines, 25 + 74, and so for a refused one's
-abbrev pub deskRoom : ℕ
-deskRoom = 99
-
--- what an answer of n bytes leaves in a lent buffer
-pub record Answered (input before after : List ℕ) (n : ℕ) : Type 0 where
-  -- the text from the buffer's beginning, as far as there is room, and behind it what was there
-  pub text : page after n ≡ writeOf (deskText input) (page before 0)
-  pub within : n ≤ length after
-  -- where there is room for any answer, n bytes are the whole text
-  pub whole : deskRoom ≤ length before
-      → (n ≡ length (deskText input)) × (after ≡ deskText input ++ drop (length (deskText input)) before)
+abbrev pub answerRoom : ℕ
+answerRoom = 99

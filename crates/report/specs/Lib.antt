@@ -1,3 +1,5 @@
+pub mod Answered
 pub mod Desk
 pub mod Lines
 pub mod Page
+pub mod Printed

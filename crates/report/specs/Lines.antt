@@ -1,11 +1,14 @@
 -- The lines that the desk prints (01, 'Listing A and the edges'), as bytes in ASCII, and room for each of them.
 -- Assumes nothing.
-use Prim.Native.Nat.{ℕ, zero, suc, _+_, _-_, _*_, _/_, _%_}
+use Prim.Native.Nat.{ℕ, zero, suc, _+_, _-_, _*_, _/_, _%_, _≤_, _<_}
 use Prim.Native.Char.{code}
 use Prim.Native.String.{String, [] as []ˢ, _∷_ as _∷ˢ_}
+use mathlib.Core.Path.{_≡_}
 use mathlib.Core.List.{List, [], _∷_, _++_}
+use lib.ListN.{getD}
 use Rattle.model.specs.declared.Stop.{Stop}
 use Rattle.model.specs.declared.Stop.the-variants.{Halted, Spent, Unsettled, Full}
+use Rattle.report.specs.Page.{Page, Written}
 
 -- a text as the codes of its characters
 abbrev pub ascii : String → List ℕ
@@ -26,7 +29,7 @@ digits (suc most) (suc n) = digits most (suc n / 10) ++ (digit (suc n) ∷ [])
 unfoldable pub decimal : ℕ → List ℕ
 decimal n = digits n (n / 10) ++ (digit n ∷ [])
 
--- a number of 32 bits has at most ten digits (proofs/Decimal.antt)
+-- a number of 32 bits has at most ten digits
 abbrev pub mostDigits : ℕ
 mostDigits = 10
 
@@ -35,9 +38,22 @@ abbrev pub readOn : ℕ → List ℕ → ℕ
 readOn v [] = v
 readOn v (x ∷ xs) = readOn (10 * v + (x - 48)) xs
 
--- `value (decimal n)` is n (proofs/Decimal.antt)
 abbrev pub value : List ℕ → ℕ
 value = readOn 0
+
+-- each byte is the code of a digit
+abbrev pub AllDigits : List ℕ → Type 0
+AllDigits [] = Unit {0}
+AllDigits (x ∷ xs) = (48 ≤ x) × (x < 58) × AllDigits xs
+
+-- what a number written in decimal leaves
+pub record DecimalWritten (n : ℕ) (before after : Page) : Type 0 where
+  pub text : Written mostDigits (decimal n) before after
+  -- which are digits, read as n
+  pub all-digits : AllDigits (decimal n)
+  pub reads-back : value (decimal n) ≡ n
+  -- and only 0 begins with a "0": 49 is the code of "1"
+  pub no-leading-zero : 0 < n → 49 ≤ getD (decimal n) 0 0
 
 -- a text and a number behind it
 unfoldable pub numbered : List ℕ → ℕ → List ℕ

@@ -2,37 +2,43 @@
 use super::admitted_line;
 use super::refused_line;
 use super::run_line;
-use alu::Flags;
-use alu::Overflow;
 use model::Answer;
 use model::State;
+use slices::BANK_SIZE;
 use slices::byte_at;
 use slices::part;
 ghost use mathlib.Core.Path.{_≡_};
-ghost use Rattle.model.specs.State.{startState};
-ghost use Rattle.report.specs.Desk.{ranOf, ranLine, ranText, Answered};
+ghost use Prim.Native.Nat.{_≤_};
+ghost use lib.ListN.{length, take};
+ghost use Rattle.report.specs.Answered.{Answered};
+ghost use Rattle.report.specs.Desk.{inputSize, ranOf, ranLine, ranText, deskText, answerRoom};
 ghost use Rattle.report.specs.Lines.{runRoom};
 ghost use Rattle.report.specs.Page.{page, Written};
 
-// 01's start state.
-fn start() -> State
-    ensures { λ r. ⌜ r ≡ startState ⌝ }
-{
-    State {
-        regs: [0u8; 4],
-        pc: 0,
-        sp: 255,
-        out: 0,
-        flags: Flags {
-            z: false,
-            c: false,
-            s: false,
-            v: Overflow::Unsettled,
-        },
-        halted: false,
-        position: 0,
-    }
-}
+// The most bytes that the desk reads: two banks, a sheet, a list of 128 bytes, and one more, by
+// which a list that is too long is told.
+pub const INPUT_SIZE: usize = 1153;
+
+// Room for any answer: 25 bytes for the first line, 74 for the second.
+pub const ANSWER_ROOM: usize = 99;
+
+// The bytes of a stack sheet: a word for each address.
+const SHEET_SIZE: usize = 512;
+
+// Where the sheet begins in an input.
+const SHEET_AT: usize = 2 * BANK_SIZE;
+
+// Where the list begins.
+const LIST_AT: usize = SHEET_AT + SHEET_SIZE;
+
+// The bytes that are left for the list.
+const LIST_ROOM: usize = INPUT_SIZE - LIST_AT;
+
+// The words of the desk's roll: one for each step of the budget, so that it is never full.
+const ROLL_SIZE: usize = 1000;
+
+// The steps that the desk lets a program make.
+const BUDGET: u32 = 1000;
 
 // The line of a run's answer is written from a place on, none of a refusal; the place after it.
 fn ran_line(out: &mut [u8], at: usize, answer: Answer, reached: State) -> usize
@@ -50,9 +56,9 @@ fn ran_line(out: &mut [u8], at: usize, answer: Answer, reached: State) -> usize
 fn run_program(opcodes: &[u8], arguments: &[u8], out: &mut [u8], at: usize) -> usize
     ensures { λ r. ⌜ Written runRoom (ranText (ranOf (now (opcodes .entry)) (now (arguments .entry)))) (page (now (out .entry)) at) (page (now (out .exit)) r) ⌝ }
 {
-    let mut ram = [0u8; 256];
-    let mut stack = [0u8; 256];
-    let mut roll = [0u16; 1000];
+    let mut ram = [0u8; BANK_SIZE];
+    let mut stack = [0u8; BANK_SIZE];
+    let mut roll = [0u16; ROLL_SIZE];
     let report = machine::run(
         opcodes,
         arguments,
@@ -60,8 +66,8 @@ fn run_program(opcodes: &[u8], arguments: &[u8], out: &mut [u8], at: usize) -> u
         &mut ram,
         &mut stack,
         &mut roll,
-        1000,
-        start(),
+        BUDGET,
+        machine::start_state(),
     );
     let answer = report.answer;
     let reached = report.state;
@@ -72,14 +78,25 @@ fn run_program(opcodes: &[u8], arguments: &[u8], out: &mut [u8], at: usize) -> u
 pub fn answer(input: &[u8], out: &mut [u8]) -> usize
     ensures { λ r. ⌜ Answered (now (input .entry)) (now (out .entry)) (now (out .exit)) r ⌝ }
 {
-    let opcodes = part(input, 0, 256);
-    let arguments = part(input, 256, 256);
-    let sheet = part(input, 512, 512);
-    let list = part(input, 1024, 129);
+    let opcodes = part(input, 0, BANK_SIZE);
+    let arguments = part(input, BANK_SIZE, BANK_SIZE);
+    let sheet = part(input, SHEET_AT, SHEET_SIZE);
+    let list = part(input, LIST_AT, LIST_ROOM);
     let number = admission::cesca_admit(opcodes, arguments, sheet, list);
     if number != 0 {
         return refused_line(out, 0, number % 256, number / 256);
     }
     let next = admitted_line(out, 0, byte_at(list, 1));
     run_program(opcodes, arguments, out, next)
+}
+
+// The same for the first `read` bytes of the buffer that the desk reads into, where there is room
+// for any answer.
+pub fn answer_read(buffer: &[u8], read: usize, out: &mut [u8]) -> usize
+    requires { ⌜ length (now buffer) ≡ inputSize ⌝ }
+    requires { ⌜ answerRoom ≤ length (now out) ⌝ }
+    ensures { λ r. ⌜ Answered (take read (now (buffer .entry))) (now (out .entry)) (now (out .exit)) r ⌝ }
+    ensures { λ r. ⌜ take r (now (out .exit)) ≡ deskText (take read (now (buffer .entry))) ⌝ }
+{
+    answer(part(buffer, 0, read), out)
 }

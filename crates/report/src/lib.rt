@@ -3,7 +3,10 @@ pub mod answering;
 pub mod lines;
 pub mod writing;
 
+pub use answering::ANSWER_ROOM;
+pub use answering::INPUT_SIZE;
 pub use answering::answer;
+pub use answering::answer_read;
 pub use lines::admitted_line;
 pub use lines::refused_line;
 pub use lines::run_line;

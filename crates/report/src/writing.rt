@@ -1,6 +1,6 @@
 // Bytes, texts and decimal numbers written from a place on. What has no room is dropped.
 ghost use mathlib.Core.Path.{_≡_};
-ghost use Rattle.report.specs.Lines.{digit, decimal};
+ghost use Rattle.report.specs.Lines.{digit, DecimalWritten};
 ghost use Rattle.report.specs.Page.{page, putOf, writeOf};
 
 // A byte is put at a place, where there is room; the place after it.
@@ -37,7 +37,7 @@ fn last_digit(n: u32) -> u8
 
 // A number is written in decimal from a place on; the place after it.
 pub fn write_decimal(out: &mut [u8], at: usize, n: u32) -> usize
-    ensures { λ r. ⌜ page (now (out .exit)) r ≡ writeOf (decimal n) (page (now (out .entry)) at) ⌝ }
+    ensures { λ r. ⌜ DecimalWritten n (page (now (out .entry)) at) (page (now (out .exit)) r) ⌝ }
 {
     if n < 10 {
         return put(out, at, last_digit(n));

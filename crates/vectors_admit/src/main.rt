@@ -1,4 +1,8 @@
 // 01's "Programs run the rest", put to admission; `stdout` holds what 01 says of each.
+use slices::BANK_SIZE;
+
+// The bytes of a stack sheet: a word for each address.
+const SHEET_SIZE: usize = 512;
 
 // A byte is put at a place; past the end nothing changes.
 fn put(s: &mut [u8], at: usize, v: u8) {
@@ -25,7 +29,7 @@ fn judged(name: &[u8], opcodes: &[u8], arguments: &[u8], sheet: &[u8], list: &[u
 // Each address is described in routine 0, at a depth that rises from 0.
 fn describe(sheet: &mut [u8]) {
     let mut a: usize = 0;
-    while a < 256 {
+    while a < BANK_SIZE {
         put(sheet, 2 * a, a as u8);
         put(sheet, 2 * a + 1, 0x80);
         a += 1;
@@ -34,9 +38,9 @@ fn describe(sheet: &mut [u8]) {
 
 // `push R0` at each address and another opcode at 255, with need 255.
 fn pushes(name: &[u8], last: u8) {
-    let mut opcodes = [0x5Cu8; 256];
-    let arguments = [0u8; 256];
-    let mut sheet = [0u8; 512];
+    let mut opcodes = [0x5Cu8; BANK_SIZE];
+    let arguments = [0u8; BANK_SIZE];
+    let mut sheet = [0u8; SHEET_SIZE];
     describe(&mut sheet);
     put(&mut opcodes, 255, last);
     judged(name, &opcodes, &arguments, &sheet, &[0, 255]);
@@ -44,9 +48,9 @@ fn pushes(name: &[u8], last: u8) {
 
 // `push R0`, then `jmp 0`, with need 1.
 fn growing_loop() {
-    let mut opcodes = [0u8; 256];
-    let arguments = [0u8; 256];
-    let mut sheet = [0u8; 512];
+    let mut opcodes = [0u8; BANK_SIZE];
+    let arguments = [0u8; BANK_SIZE];
+    let mut sheet = [0u8; SHEET_SIZE];
     put(&mut opcodes, 0, 0x5C);
     put(&mut opcodes, 1, 0xA0);
     put(&mut sheet, 1, 0x80);
@@ -63,9 +67,9 @@ fn growing_loop() {
 
 // Admission's answer to routine 0 at 0 that calls itself, with a need.
 fn calls_itself(need: u8) -> u32 {
-    let mut opcodes = [0u8; 256];
-    let arguments = [0u8; 256];
-    let mut sheet = [0u8; 512];
+    let mut opcodes = [0u8; BANK_SIZE];
+    let arguments = [0u8; BANK_SIZE];
+    let mut sheet = [0u8; SHEET_SIZE];
     let mut list = [0u8; 2];
     put(&mut opcodes, 0, 0xA8);
     put(&mut opcodes, 1, 0xF8);

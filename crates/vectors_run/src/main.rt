@@ -4,11 +4,13 @@ mod printing;
 
 use alu::Flags;
 use alu::Overflow;
+use machine::start_state;
 use model::State;
 use printing::byte;
 use printing::named;
 use printing::text;
 use printing::word;
+use slices::BANK_SIZE;
 
 // A state with PC, SP, R0, R1, V and the key position; all else is 0.
 fn state(pc: u8, sp: u8, r0: u8, r1: u8, v: Overflow, position: usize) -> State {
@@ -28,11 +30,6 @@ fn state(pc: u8, sp: u8, r0: u8, r1: u8, v: Overflow, position: usize) -> State 
     }
 }
 
-// 01's start state.
-fn start() -> State {
-    state(0, 255, 0, 0, Overflow::Unsettled, 0)
-}
-
 // A listing's words, opcode and argument by turns, put into the two banks from an address on; 32
 // words, those past its end 00.
 fn key_in(listing: &[u8], at: u8, opcodes: &mut [u8], arguments: &mut [u8]) {
@@ -49,11 +46,11 @@ fn key_in(listing: &[u8], at: u8, opcodes: &mut [u8], arguments: &mut [u8]) {
 // Runs a listing keyed in at an address, with a roll of 4 words, and writes the outcome: the report,
 // the data byte at 16, the stack bytes at 253 to 255, and the roll. The stack bank is full of 170.
 fn vector(name: &[u8], listing: &[u8], at: u8, keys: &[u8], budget: u32, s: State) {
-    let mut opcodes = [0u8; 256];
-    let mut arguments = [0u8; 256];
+    let mut opcodes = [0u8; BANK_SIZE];
+    let mut arguments = [0u8; BANK_SIZE];
     key_in(listing, at, &mut opcodes, &mut arguments);
-    let mut ram = [0u8; 256];
-    let mut stack = [170u8; 256];
+    let mut ram = [0u8; BANK_SIZE];
+    let mut stack = [170u8; BANK_SIZE];
     let mut roll = [0u16; 4];
     let r = machine::run(
         &opcodes,
@@ -98,14 +95,14 @@ fn halted(pc: u8) -> State {
 // Listing A, and instructions that compute.
 fn computing() {
     let listing_a = b"\x30\x05\xA8\x04\xF0\x00\xF8\x00\x5E\x00\x10\x01\x88\x00\xAC\x00";
-    vector(b"listing A", listing_a, 0, b"", 1000, start());
+    vector(b"listing A", listing_a, 0, b"", 1000, start_state());
     vector(
         b"add overflows",
         b"\x30\x7F\x14\x01\xF8\x00",
         0,
         b"",
         1000,
-        start(),
+        start_state(),
     );
     vector(
         b"sub borrows",
@@ -113,7 +110,7 @@ fn computing() {
         0,
         b"",
         1000,
-        start(),
+        start_state(),
     );
     vector(
         b"sub to NONE",
@@ -121,7 +118,7 @@ fn computing() {
         0,
         b"",
         1000,
-        start(),
+        start_state(),
     );
     let fifteen = state(0, 255, 15, 0, Overflow::Unsettled, 0);
     vector(
@@ -132,18 +129,32 @@ fn computing() {
         1000,
         fifteen,
     );
-    vector(b"mask IN", b"\x2C\x80\xF8\x00", 0, b"\x81", 1000, start());
+    vector(
+        b"mask IN",
+        b"\x2C\x80\xF8\x00",
+        0,
+        b"\x81",
+        1000,
+        start_state(),
+    );
 }
 
 // Keys, the data bank and the stack bank.
 fn moving() {
     let keys = b"\x40\x00\x50\x00\x44\x00\x50\x00\x48\x00\x50\x00\xF8\x00";
-    vector(b"keys and Ack", keys, 0, b"\x07\x09", 1000, start());
+    vector(b"keys and Ack", keys, 0, b"\x07\x09", 1000, start_state());
     let bank = b"\x34\x10\x38\x4D\x5A\x01\x6C\x10\x71\x00\x54\x11\xF4\x11\xF8\x00";
-    vector(b"data bank", bank, 0, b"", 1000, start());
+    vector(b"data bank", bank, 0, b"", 1000, start_state());
     let nine = state(0, 0, 9, 0, Overflow::Unsettled, 0);
     vector(b"push at SP 0", b"\x5C\x00\xF8\x00", 0, b"", 1000, nine);
-    vector(b"pop at SP 255", b"\x80\x00\xF8\x00", 0, b"", 1000, start());
+    vector(
+        b"pop at SP 255",
+        b"\x80\x00\xF8\x00",
+        0,
+        b"",
+        1000,
+        start_state(),
+    );
     vector(
         b"SP there and back",
         b"\x5C\x00\x84\x00\xF8\x00",
@@ -153,13 +164,13 @@ fn moving() {
         nine,
     );
     let swap = b"\x30\x01\x34\x02\x5C\x00\x99\x00\x8C\x00\xF8\x00";
-    vector(b"swap", swap, 0, b"", 1000, start());
+    vector(b"swap", swap, 0, b"", 1000, start_state());
 }
 
 // Calls and jumps, and addresses that go round.
 fn going() {
     let calls = b"\xA8\x04\x34\x06\xA5\x00\xF8\x00\x30\x03\xAC\x00\xA0\x08\xFC\x00\xF8\x00";
-    vector(b"calls and jumps", calls, 0, b"", 1000, start());
+    vector(b"calls and jumps", calls, 0, b"", 1000, start_state());
     let last = state(255, 255, 0, 0, Overflow::Unsettled, 0);
     vector(
         b"PC from 255 to 0",
@@ -175,13 +186,20 @@ fn going() {
 // The roll, the four stops, and a halted state run again.
 fn stopping() {
     let lcd = b"\x30\x42\xE0\x38\xE4\x41\xE8\x00\xEC\x10\xF8\x00";
-    vector(b"LCD transfers", lcd, 0, b"", 1000, start());
+    vector(b"LCD transfers", lcd, 0, b"", 1000, start_state());
     let five = b"\xE4\x01\xE4\x02\xE4\x03\xE4\x04\xE4\x05\xF8\x00";
-    vector(b"full roll", five, 0, b"", 1000, start());
-    vector(b"spent budget", b"\xA0\x00", 0, b"", 10, start());
-    vector(b"budget 0 at jv", b"\xC0\x05", 0, b"", 0, start());
-    vector(b"jv on unsettled V", b"\xC0\x05", 0, b"", 9, start());
-    vector(b"jle with Z set", b"\x28\x00\xDC\x00", 0, b"", 9, start());
+    vector(b"full roll", five, 0, b"", 1000, start_state());
+    vector(b"spent budget", b"\xA0\x00", 0, b"", 10, start_state());
+    vector(b"budget 0 at jv", b"\xC0\x05", 0, b"", 0, start_state());
+    vector(b"jv on unsettled V", b"\xC0\x05", 0, b"", 9, start_state());
+    vector(
+        b"jle with Z set",
+        b"\x28\x00\xDC\x00",
+        0,
+        b"",
+        9,
+        start_state(),
+    );
     vector(b"halted again", b"\xF8\x00", 0, b"", 5, halted(7));
     vector(b"halted, budget 0", b"\xF8\x00", 0, b"", 0, halted(7));
 }
@@ -210,12 +228,19 @@ fn refusing() {
         1000,
         at_key(3),
     );
-    vector(b"budget over 1,000,000", read, 0, b"", 1000001, start());
+    vector(
+        b"budget over 1,000,000",
+        read,
+        0,
+        b"",
+        1000001,
+        start_state(),
+    );
     vector(b"18 before 19", read, 0, b"", 1000001, at_key(1));
-    let mut ram = [0u8; 255];
-    let mut stack = [0u8; 256];
+    let mut ram = [0u8; BANK_SIZE - 1];
+    let mut stack = [0u8; BANK_SIZE];
     let mut roll = [0u16; 1];
-    let bank = [0u8; 256];
+    let bank = [0u8; BANK_SIZE];
     let r = machine::run(
         &bank,
         &bank,
@@ -233,11 +258,11 @@ fn refusing() {
 
 // The state that a listing keyed in at 0 reaches from R0 and R1.
 fn reached(listing: &[u8], r0: u8, r1: u8) -> State {
-    let mut opcodes = [0u8; 256];
-    let mut arguments = [0u8; 256];
+    let mut opcodes = [0u8; BANK_SIZE];
+    let mut arguments = [0u8; BANK_SIZE];
     key_in(listing, 0, &mut opcodes, &mut arguments);
-    let mut ram = [0u8; 256];
-    let mut stack = [0u8; 256];
+    let mut ram = [0u8; BANK_SIZE];
+    let mut stack = [0u8; BANK_SIZE];
     let mut roll = [0u16; 1];
     let s = state(0, 255, r0, r1, Overflow::Unsettled, 0);
     let r = machine::run(

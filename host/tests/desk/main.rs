@@ -4,6 +4,7 @@
 //! `NAME.out` was worked out by hand.
 
 mod cases;
+mod failing;
 #[path = "../common/stored.rs"]
 mod stored;
 

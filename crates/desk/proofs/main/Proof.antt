@@ -1,10 +1,8 @@
--- The desk's buffer has room for any answer, so what it writes, a part of the buffer, is the whole text.
+-- The buffers have the lengths that `answer_read` asks for, and what is written is a part of the second.
 -- Assumes nothing.
 use borrow.Author.Needs.{needs}
-use mathlib.Core.Path.{sym, ap, _∙_}
-use lib.Dec.{lit≤}
-use lib.ListN.{length}
-use Rattle.report.proofs.DeskTexts.{answered-bytes}
+use mathlib.Core.Path.{sym}
+use lib.Seq.{length-take-le}
 use Rattle.desk.proofs.main.Statement.{statement}
 use Rattle.desk.proofs.main.Tie as tie
 
@@ -16,12 +14,8 @@ main-spec =
     (λ c κs. search needs)
     (λ c. search needs)
     (λ c. search needs)
-    (λ c. search needs)
     (λ c κs. search needs)
-    (λ c. c .before .answer .ensures .within)
-    (λ c.
-    let a = c .before .before .answer .ensures in
-    let room = lit≤ tt in
-    a .whole room .0 ∙ ap length (sym (answered-bytes a room)))
+    (λ c. search needs)
+    (λ c. sym (length-take-le _ _ (c .before .before .answer-read .ensures .0 .within)))
     (λ c κs. search needs)
     (λ c. search needs))

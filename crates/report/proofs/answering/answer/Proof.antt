@@ -2,7 +2,7 @@
 -- Assumes nothing.
 use borrow.Author.Needs.{needs}
 use native.Mathlib.Omega.{arith}
-use Rattle.report.proofs.DeskTexts.{refused-text, admitted-text, answered}
+use Rattle.report.proofs.DeskTexts.{refused-text, admitted-text, ends, answered}
 use Rattle.report.proofs.Pages.{texts-written, written-within}
 use Rattle.report.proofs.answering.answer.Statement.{statement}
 use Rattle.report.proofs.answering.answer.Tie as tie
@@ -21,7 +21,14 @@ answer-spec =
     (λ c.
     let at-if = c .before .before .before .before in
     let parts = at-if .before .before in
-    answered (written-within (omega arith) (c .before .before .refused-line .ensures)) (refused-text (parts .before .before .before .before .before .before .args .input .now) _ _ _ _ (parts .before .before .before .part .ensures) (parts .before .before .part2 .ensures) (parts .before .part3 .ensures) (parts .part4 .ensures) _ (at-if .before .cesca-admit .ensures .answers) (at-if .if1 .taken)))
+    let input = parts .before .before .before .before .before .before .args .input .now in
+    let o = parts .before .before .before .part .ensures in
+    let g = parts .before .before .part2 .ensures in
+    let s = parts .before .part3 .ensures in
+    let l = parts .part4 .ensures in
+    let a = at-if .before .cesca-admit .ensures in
+    answered (written-within (omega arith) (c .before .before .refused-line .ensures))
+    (refused-text input _ _ _ _ o g s l _ a (at-if .if1 .taken)) (ends input _ _ _ _ o g s l _ a))
     (λ c κs. search needs)
     (λ c κs. search needs)
     (λ c κs. search needs)
@@ -29,4 +36,13 @@ answer-spec =
     (λ c.
     let at-if = c .before .before .before .before .before .before .before .before .before in
     let parts = at-if .before .before in
-    answered (texts-written (c .before .before .before .before .before .before .admitted-line .ensures) (c .before .before .run-program .ensures)) (admitted-text (parts .before .before .before .before .before .before .args .input .now) _ _ _ _ (parts .before .before .before .part .ensures) (parts .before .before .part2 .ensures) (parts .before .part3 .ensures) (parts .part4 .ensures) _ (at-if .before .cesca-admit .ensures .answers) (at-if .if1 .left) _ (c .before .before .before .before .before .before .before .byte-at .ensures))))
+    let input = parts .before .before .before .before .before .before .args .input .now in
+    let o = parts .before .before .before .part .ensures in
+    let g = parts .before .before .part2 .ensures in
+    let s = parts .before .part3 .ensures in
+    let l = parts .part4 .ensures in
+    let a = at-if .before .cesca-admit .ensures in
+    answered
+    (texts-written (c .before .before .before .before .before .before .admitted-line .ensures) (c .before .before .run-program .ensures))
+    (admitted-text input _ _ _ _ o g s l _ a (at-if .if1 .left) _ (c .before .before .before .before .before .before .before .byte-at .ensures))
+    (ends input _ _ _ _ o g s l _ a)))

@@ -21,4 +21,4 @@ run-program-spec =
     (λ c.
     let after-run = c .before .before .before .before .before .before .before .before in
     let a = after-run .before .before .before .before .before .before .before .before .before .args in
-    written-same (c .before .before .ran-line .ensures) (ran-text (a .opcodes .now) (a .arguments .now) _ _ (after-run .before .start .ensures) (after-run .run .ensures))))
+    written-same (c .before .before .ran-line .ensures) (ran-text (a .opcodes .now) (a .arguments .now) _ (after-run .before .start-state .ensures) (after-run .run .ensures .computed))))

@@ -1,9 +1,8 @@
--- The number stands behind the text. It is of 32 bits, so its digits are few.
+-- The number stands behind the text.
 -- Assumes nothing.
 use borrow.Author.Needs.{needs}
 use native.Mathlib.Nat.{le-refl}
 use Rattle.report.specs.Lines.{numbered}
-use Rattle.report.proofs.Decimal.{decimal-short}
 use Rattle.report.proofs.Pages.{texts-written}
 use Rattle.report.proofs.lines.write_numbered.Statement.{statement}
 use Rattle.report.proofs.lines.write_numbered.Tie as tie
@@ -11,10 +10,9 @@ use Rattle.report.proofs.lines.write_numbered.Tie as tie
 returns : tie.Need-returns
 unfolding numbered
 returns c =
-    let start = c .before .before .before .before .before .before .before .before .before .before in
     texts-written
     (record { left = c .before .before .before .before .before .before .write .ensures; short = le-refl _ })
-    (record { left = c .before .before .write-decimal .ensures; short = decimal-short (start .args .n) (start .fits .n .fits) })
+    (c .before .before .write-decimal .ensures .text)
 
 pub write-numbered-spec : {M : Type 1} → statement M
 write-numbered-spec = tie.close (tie.spec (λ c κs. search needs) (λ c κs. search needs) (λ c. search needs) returns)

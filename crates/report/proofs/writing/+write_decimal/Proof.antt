@@ -7,7 +7,7 @@ use borrow.Fn.Kinds.{In}
 use borrow.Fn.PlainCycle.{Measures, is, falls, and}
 use Rattle.report.specs.Lines.{digit, decimal}
 use Rattle.report.specs.Page.{Page, page, putOf, writeOf}
-use Rattle.report.proofs.Decimal.{one-digit, more-digits}
+use Rattle.report.proofs.Decimal.{one-digit, more-digits, decimal-written}
 use Rattle.report.proofs.Pages.{byte-behind}
 use Rattle.report.proofs.writing.write_decimal.Reads as write-decimal
 use Rattle.report.proofs.writing.write_decimal.Kinds as write-decimal-kinds
@@ -47,11 +47,13 @@ pub +write-decimal-spec : {M : Type 1} → statement M
     (λ c. search needs)
     (λ c.
     let a = c .before .before .before .before .before .before .before .args in
-    alone (a .n) (page (a .out .now) (a .at)) (c .before .before .before .before .before .if1 .taken) (c .before .before .before .last-digit .ensures) (c .before .before .put .ensures))
+    let p = page (a .out .now) (a .at) in
+    decimal-written (a .n) (c .before .before .before .before .before .before .before .fits .n .fits) p (alone (a .n) p (c .before .before .before .before .before .if1 .taken) (c .before .before .before .last-digit .ensures) (c .before .before .put .ensures)))
     (λ c κs. search needs)
     (λ c κs. search needs)
     (λ c κs. search needs)
     (λ c. search needs)
     (λ c.
     let a = c .before .before .before .before .before .before .before .before .before .before .before .args in
-    behind (a .n) (page (a .out .now) (a .at)) (c .before .before .before .before .before .before .before .before .before .if1 .left) (c .before .before .before .before .before .before .before .write-decimal .ensures) (c .before .before .before .last-digit2 .ensures) (c .before .before .put2 .ensures))
+    let p = page (a .out .now) (a .at) in
+    decimal-written (a .n) (c .before .before .before .before .before .before .before .before .before .before .before .fits .n .fits) p (behind (a .n) p (c .before .before .before .before .before .before .before .before .before .if1 .left) (c .before .before .before .before .before .before .before .write-decimal .ensures .text .left) (c .before .before .before .last-digit2 .ensures) (c .before .before .put2 .ensures)))
