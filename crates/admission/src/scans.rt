@@ -6,18 +6,14 @@ use super::grounds::entry_ground;
 use super::grounds::first;
 use super::grounds::routine_ground;
 use super::sheet::entry_of;
+use rules::MAX_LIST_SIZE;
+use rules::SHEET_SIZE;
 use slices::BANK_SIZE;
 ghost use mathlib.Core.Path.{_≡_};
 ghost use Rattle.rules.specs.Sheet.{listing};
 ghost use Rattle.slices.specs.Checks.{firstBroken};
 ghost use Rattle.admission.specs.declared.scans.Stage.the-variants.{Entries};
 ghost use Rattle.admission.specs.internal.Stages.{stageChecks, stagePlaces, StageReady, stageOf, sizesOf, scansOf, stagesOf};
-
-// The bytes of a stack sheet: a word for each address.
-const SHEET_SIZE: usize = 512;
-
-// The most bytes of a routine list: two for each of 64 routines.
-const LIST_LIMIT: usize = 128;
 
 // The rules that are judged at one place after another: 4, 5, 7, and 8 to 16.
 enum Stage {
@@ -38,7 +34,7 @@ fn sizes(opcodes: &[u8], arguments: &[u8], sheet: &[u8], list: &[u8]) -> u32
         return 2;
     }
     let n = list.len();
-    if (n % 2 == 1) | ((n == 0) | (LIST_LIMIT < n)) {
+    if (n % 2 == 1) | ((n == 0) | (MAX_LIST_SIZE < n)) {
         return 3;
     }
     0

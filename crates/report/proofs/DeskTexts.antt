@@ -14,7 +14,8 @@ use Rattle.rules.specs.Grounds.{admitOf}
 use Rattle.rules.specs.Sheet.{listing, need}
 use Rattle.admission.specs.Admission.{Admission}
 use Rattle.report.specs.Answered.{RunEnds, Answered}
-use Rattle.report.specs.Desk.{partOf, listingIn, deskCall, ranOf, ranText, textBy, deskText, answerRoom}
+use Rattle.slices.specs.Parts.{partOf}
+use Rattle.report.specs.Desk.{listingIn, deskCall, ranOf, ranText, textBy, deskText, answerRoom}
 use Rattle.report.specs.Lines.{refusedLine, admittedLine}
 use Rattle.report.specs.Page.{Page, page, Written}
 use Rattle.report.proofs.Pages.{written-same, write-within, write-whole}

@@ -4,7 +4,7 @@ use Prim.Native.Nat.{ℕ, _+_, _-_, _/_, _%_}
 use mathlib.Core.Bool.{cond}
 use mathlib.Core.List.{List, [], _++_}
 use lib.Dec.{eqb}
-use lib.ListN.{take, drop, replicate}
+use lib.ListN.{replicate}
 use Rattle.model.specs.Run.{Outcome, Call, call, callOf}
 use Rattle.model.specs.State.{startState}
 use Rattle.model.specs.declared.Answer.{Answer}
@@ -12,16 +12,13 @@ use Rattle.model.specs.declared.Answer.the-variants.{Refused, Ran}
 use Rattle.model.specs.declared.State.{State}
 use Rattle.rules.specs.Grounds.{sheetSize, admitOf}
 use Rattle.rules.specs.Sheet.{Listing, listing, need}
+use Rattle.slices.specs.Parts.{partOf}
 use Rattle.slices.specs.Sizes.{bankSize}
 use Rattle.report.specs.Lines.{refusedLine, admittedLine, runLine}
 
 -- "anything past 1,153 bytes is not read"
 abbrev pub inputSize : ℕ
 inputSize = 1153
-
--- the n bytes from a place on, or as many of them as there are
-abbrev pub partOf : List ℕ → (at n : ℕ) → List ℕ
-partOf l at n = take n (drop at l)
 
 -- where the sheet and the list begin
 abbrev pub sheetAt : ℕ

@@ -4,6 +4,7 @@ use super::refused_line;
 use super::run_line;
 use model::Answer;
 use model::State;
+use rules::SHEET_SIZE;
 use slices::BANK_SIZE;
 use slices::byte_at;
 use slices::part;
@@ -21,9 +22,6 @@ pub const INPUT_SIZE: usize = 1153;
 
 // Room for any answer: 25 bytes for the first line, 74 for the second.
 pub const ANSWER_ROOM: usize = 99;
-
-// The bytes of a stack sheet: a word for each address.
-const SHEET_SIZE: usize = 512;
 
 // Where the sheet begins in an input.
 const SHEET_AT: usize = 2 * BANK_SIZE;

@@ -1,8 +1,6 @@
 // 01's "Programs run the rest", put to admission; `stdout` holds what 01 says of each.
+use rules::SHEET_SIZE;
 use slices::BANK_SIZE;
-
-// The bytes of a stack sheet: a word for each address.
-const SHEET_SIZE: usize = 512;
 
 // A byte is put at a place; past the end nothing changes.
 fn put(s: &mut [u8], at: usize, v: u8) {
