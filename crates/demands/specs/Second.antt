@@ -34,28 +34,28 @@ use Rattle.demands.specs.First.{runRules, encodeRules}
 -- ---- a step
 
 -- "An instruction is one opcode byte and the argument byte at the same address", here at PC
-abbrev pub nextInstr : Setting → State → Instr
-nextInstr x s = decodeOf (getD (x .program .opcodes) (s .pc) 0) (getD (x .program .arguments) (s .pc) 0)
+abbrev pub instructionAtPc : Setting → State → Instr
+instructionAtPc x s = decodeOf (getD (x .program .opcodes) (s .pc) 0) (getD (x .program .arguments) (s .pc) 0)
 
 -- what the CESCA document says of it: `planOf` has a clause a row; the byte at SP is its third argument
 abbrev pub planned : Setting → Machine → Plan
 planned x m =
-    planOf (fetched (m .core .state)) (getD (m .stack) (m .core .state .sp) 0) (m .core .ram) (x .keys) (nextInstr x (m .core .state))
+    planOf (fetched (m .core .state)) (getD (m .stack) (m .core .state .sp) 0) (m .core .ram) (x .keys) (instructionAtPc x (m .core .state))
 
 -- a step asked for at m, with budget left: the verdict, the cycles, and the machine m′ left
 pub record SecondOfStep (x : Setting) (m : Machine) (v : Verdict) (cycles : ℕ) (m′ : Machine) : Type 0 where
   -- "Before each step the first that holds stops it: halted; ..; V is unsettled; it writes to the roll and the roll is full"
   pub verdict :
       v ≡ firstStop (m .core .state .halted) false
-      (testsOverflow (nextInstr x (m .core .state)) && not (isSettled (m .core .state .flags .v)))
-      (writesRoll (nextInstr x (m .core .state)) && leb (length (m .core .roll)) (m .core .words))
+      (testsOverflow (instructionAtPc x (m .core .state)) && not (isSettled (m .core .state .flags .v)))
+      (writesRoll (instructionAtPc x (m .core .state)) && leb (length (m .core .roll)) (m .core .words))
   pub state : v ≡ Go → m′ .core .state ≡ planned x m .state
   pub data-bank : v ≡ Go → m′ .core .ram ≡ ramAfter (planned x m .write) (m .core .ram)
   pub stack-bank : v ≡ Go → m′ .stack ≡ stackAfter (planned x m .write) (m .stack)
   pub display : v ≡ Go → m′ .core .roll ≡ rollAfter (planned x m .write) (m .core .words) (m .core .roll)
   pub display-words : v ≡ Go → m′ .core .words ≡ wordsAfter (planned x m .write) (m .core .words)
   -- "Cycles are 003's column, taken or untaken jumps alike"
-  pub cycles-are : v ≡ Go → cycles ≡ cyclesOf (nextInstr x (m .core .state))
+  pub cycles-are : v ≡ Go → cycles ≡ cyclesOf (instructionAtPc x (m .core .state))
   -- "A stopped instruction has done nothing and isn't counted"
   pub prevented : (y : Stop) → v ≡ Stopped y → (m′ ≡ m) × (cycles ≡ 0)
 
