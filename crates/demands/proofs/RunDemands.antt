@@ -94,10 +94,16 @@ time-number (Tenths n) = refl
 time-number BadClock = refl
 time-number BadCycles = refl
 
+time-alone : (t : RunningTime) → (timeNumbers t .0 ≡ 0 → ⊥) → timeNumbers t ≡ (timeNumbers t .0, 0)
+time-alone (Tenths n) h = absurd (h refl)
+time-alone BadClock h = refl
+time-alone BadCycles h = refl
+
 pub time-first : (cycles clock : ℕ) (r : TimeNumbers) → TimeNumbered cycles clock r → FirstOfTime cycles clock r
 time-first cycles clock r n =
     let e : r .0 ≡ timeNumber (timeOf cycles clock) = ap (λ (x : TimeNumbers). x .0) (n .report) ∙ time-number (timeOf cycles clock) in
     record {
       decided = record { accepted = λ p. e ∙ n .promise .refuses .accepts p; refused = λ b. rw e (n .promise .refuses .refuses b) };
+      nothing-else = rw (n .report) (time-alone (timeOf cycles clock));
       timed = λ p. ap (λ (x : TimeNumbers). x .1) (n .report ∙ ap timeNumbers (n .promise .timed p));
     }

@@ -9,7 +9,7 @@ use lib.Dec.{eqb, ltb}
 use lib.ListN.{length}
 use Rattle.slices.specs.Checks.{Check, check, NoneBroken, Named}
 use Rattle.slices.specs.Sizes.{badBank}
-use Rattle.isa.specs.Encode.{badRegister, badFunction}
+use Rattle.isa.specs.Encode.{badRegister, badFunction, encodeOf, opcodesAfter, argumentsAfter}
 use Rattle.isa.specs.Table.{rowOf, argumentIn}
 use Rattle.isa.specs.declared.Instr.{Instr}
 use Rattle.model.specs.Run.{Call}
@@ -79,6 +79,7 @@ timeRules cycles clock =
 
 pub record FirstOfTime (cycles clock : ℕ) (r : TimeNumbers) : Type 0 where
   pub decided : Decided (timeRules cycles clock) (r .0)
+  pub nothing-else : (r .0 ≡ 0 → ⊥) → r ≡ (r .0, 0)
   -- "in tenths of a second, to the nearest, a half going up"
   pub timed : NoneBroken (timeRules cycles clock) → r .1 ≡ (20 * cycles + clock) / (2 * clock)
 
@@ -95,10 +96,14 @@ encodeRules i =
 abbrev pub putRules : Instr → (ops args : List ℕ) → List Check
 putRules i ops args = check 1 0 (badBank ops || badBank args) ∷ encodeRules i
 
-abbrev pub FirstOfEncode : Fields → Encoding → Type 0
-FirstOfEncode x r = Decided (encodeRules (instrOf x)) (r .0)
+pub record FirstOfEncode (x : Fields) (r : Encoding) : Type 0 where
+  pub decided : Decided (encodeRules (instrOf x)) (r .0)
+  pub nothing-else : (r .0 ≡ 0 → ⊥) → r ≡ (r .0, 0, 0)
 
-pub record FirstOfPut (x : Fields) (ops args : List ℕ) (number : ℕ) (ops′ args′ : List ℕ) : Type 0 where
+pub record FirstOfPut (x : Fields) (ops args : List ℕ) (at number : ℕ) (ops′ args′ : List ℕ) : Type 0 where
   pub decided : Decided (putRules (instrOf x) ops args) number
+  -- the two bytes stand at the address
+  pub opcode-put : NoneBroken (putRules (instrOf x) ops args) → ops′ ≡ opcodesAfter (encodeOf (instrOf x)) ops at
+  pub argument-put : NoneBroken (putRules (instrOf x) ops args) → args′ ≡ argumentsAfter (encodeOf (instrOf x)) args at
   pub opcodes-kept : (NoneBroken (putRules (instrOf x) ops args) → ⊥) → ops′ ≡ ops
   pub arguments-kept : (NoneBroken (putRules (instrOf x) ops args) → ⊥) → args′ ≡ args

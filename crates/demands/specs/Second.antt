@@ -4,12 +4,12 @@
 -- Assumes nothing.
 use Prim.Native.Nat.{ℕ, _≤_}
 use mathlib.Core.Path.{_≡_}
-use mathlib.Core.Bool.{Bool, true, false, not, _&&_}
+use mathlib.Core.Bool.{Bool, false, not, _&&_}
 use mathlib.Core.List.{List}
 use lib.Dec.{leb}
 use lib.ListN.{length, getD}
 use Rattle.slices.specs.Checks.{NoneBroken}
-use Rattle.alu.specs.Alu.{isSettled}
+use Rattle.alu.specs.Alu.{aluOf, isSettled}
 use Rattle.isa.specs.Decode.{decodeOf}
 use Rattle.isa.specs.Facts.{writesRoll}
 use Rattle.isa.specs.Free.{clearedOf}
@@ -24,9 +24,11 @@ use Rattle.model.specs.declared.Stop.{Stop}
 use Rattle.model.specs.declared.Stop.the-variants.{Halted, Spent, Unsettled, Full}
 use Rattle.model.specs.declared.Verdict.{Verdict}
 use Rattle.model.specs.declared.Verdict.the-variants.{Go, Stopped}
-use Rattle.boundary.specs.Numbers.{fieldsOf, instrOf}
+use Rattle.boundary.specs.Numbers.{fieldsOf, instrOf, computedNumbers, factNumbersOf}
 use Rattle.boundary.specs.Runs.{stateNumbers}
+use Rattle.boundary.specs.declared.ComputedNumbers.{ComputedNumbers}
 use Rattle.boundary.specs.declared.Encoding.{Encoding}
+use Rattle.boundary.specs.declared.FactNumbers.{FactNumbers}
 use Rattle.boundary.specs.declared.Fields.{Fields}
 use Rattle.boundary.specs.declared.RunNumbers.{RunNumbers}
 use Rattle.demands.specs.First.{runRules, encodeRules}
@@ -37,7 +39,7 @@ use Rattle.demands.specs.First.{runRules, encodeRules}
 abbrev pub instructionAtPc : Setting → State → Instr
 instructionAtPc x s = decodeOf (getD (x .program .opcodes) (s .pc) 0) (getD (x .program .arguments) (s .pc) 0)
 
--- what the CESCA document says of it: `planOf` has a clause a row; the byte at SP is its third argument
+-- what the CESCA document says of it: `planOf` has a clause a row; the byte at SP is its second argument
 abbrev pub planned : Setting → Machine → Plan
 planned x m =
     planOf (fetched (m .core .state)) (getD (m .stack) (m .core .state .sp) 0) (m .core .ram) (x .keys) (instructionAtPc x (m .core .state))
@@ -86,10 +88,18 @@ SecondOfRun c r ram stack roll = NoneBroken (runRules c) → RunReported c (runO
 
 -- ---- instructions and bytes
 
--- the numbers y of an instruction x that was encoded, and then decoded: x as the table has it
+-- the numbers y of an instruction x that was encoded, and then decoded: the same instruction, in the numbers that the table gives it
 abbrev pub InstructionReturns : Fields → Fields → Type 0
-InstructionReturns x y = NoneBroken (encodeRules (instrOf x)) → y ≡ fieldsOf (instrOf x)
+InstructionReturns x y = NoneBroken (encodeRules (instrOf x)) → (instrOf y ≡ instrOf x) × (y ≡ fieldsOf (instrOf x))
 
 -- two bytes that were decoded, and then encoded: no refusal, and just the free bits of their row cleared
 abbrev pub BytesReturn : (op arg : ℕ) → Encoding → Type 0
 BytesReturn op arg r = (r .0 ≡ 0) × (Bytes (r .1) (r .2) ≡ clearedOf (rowOf (decodeOf op arg)) op arg)
+
+-- ---- a function of the ALU, and an instruction's facts
+
+abbrev pub SecondOfAlu : (f x y : ℕ) → (c : Bool) → ComputedNumbers → Type 0
+SecondOfAlu f x y c r = r ≡ computedNumbers (aluOf f x y c)
+
+abbrev pub SecondOfFacts : Fields → FactNumbers → Type 0
+SecondOfFacts x r = r ≡ factNumbersOf (instrOf x)

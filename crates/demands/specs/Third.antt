@@ -9,7 +9,7 @@ use mathlib.Core.List.{List, []}
 use lib.ListN.{length}
 use Rattle.model.specs.State.{startWith}
 use Rattle.rules.specs.Demand.{Tallied, NoneUnsettled, TraceIs, AllAgree}
-use Rattle.rules.specs.RunLists.{Snapshot, ListedRun, outcomes, events, callIn}
+use Rattle.rules.specs.RunLists.{Snapshot, ListedRun, outcomes, events}
 use Rattle.rules.specs.Sheet.{Listing}
 use Rattle.model.specs.Step.{Setting, Machine}
 

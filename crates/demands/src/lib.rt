@@ -1,7 +1,9 @@
 // The three demands, whole, of the functions that are exported and of the step that runs: each
 // function here only calls one of them and promises the demand's sentence, so a contract that is
 // weakened below fails here.
+use boundary::ComputedNumbers;
 use boundary::Encoding;
+use boundary::FactNumbers;
 use boundary::Fields;
 use boundary::RunNumbers;
 use boundary::StateNumbers;
@@ -15,7 +17,7 @@ ghost use Rattle.model.specs.Step.{setting, machineAt};
 ghost use Rattle.rules.specs.Sheet.{listing};
 ghost use Rattle.boundary.specs.Runs.{stateOf};
 ghost use Rattle.demands.specs.First.{FirstOfListing, FirstOfRun, FirstOfTime, FirstOfEncode, FirstOfPut};
-ghost use Rattle.demands.specs.Second.{SecondOfStep, SecondOfRun, InstructionReturns, BytesReturn};
+ghost use Rattle.demands.specs.Second.{SecondOfStep, SecondOfRun, SecondOfAlu, SecondOfFacts, InstructionReturns, BytesReturn};
 ghost use Rattle.demands.specs.Third.{ThirdDemand};
 
 // Admission's answer: the first demand of a listing, and the third where it is 0.
@@ -75,7 +77,7 @@ pub fn encode(fields: Fields) -> Encoding
 
 // An instruction put into the banks: the first demand of its call.
 pub fn put(fields: Fields, opcodes: &mut [u8], arguments: &mut [u8], at: u8) -> u8
-    ensures { λ r. ⌜ FirstOfPut fields (now (opcodes .entry)) (now (arguments .entry)) r (now (opcodes .exit)) (now (arguments .exit)) ⌝ }
+    ensures { λ r. ⌜ FirstOfPut fields (now (opcodes .entry)) (now (arguments .entry)) at r (now (opcodes .exit)) (now (arguments .exit)) ⌝ }
 {
     boundary::cesca_put(fields, opcodes, arguments, at)
 }
@@ -93,6 +95,20 @@ pub fn bytes_returned(opcode: u8, argument: u8) -> Encoding
     ensures { λ r. ⌜ BytesReturn opcode argument r ⌝ }
 {
     boundary::cesca_encode(boundary::cesca_decode(opcode, argument))
+}
+
+// A function of the ALU: the second demand.
+pub fn alu(f: u8, x: u8, y: u8, c: bool) -> ComputedNumbers
+    ensures { λ r. ⌜ SecondOfAlu f x y c r ⌝ }
+{
+    boundary::cesca_alu(f, x, y, c)
+}
+
+// An instruction's cycles, class, effect on V and use of the roll: the second demand.
+pub fn facts(fields: Fields) -> FactNumbers
+    ensures { λ r. ⌜ SecondOfFacts fields r ⌝ }
+{
+    boundary::cesca_facts(fields)
 }
 
 // The marked rows M1 to M10, b being the byte that M8 pushes, and the listings that 01 names: the

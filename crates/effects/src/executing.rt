@@ -1,4 +1,4 @@
-// What each instruction does, as one function of forty arms: the next state, an action, and cycles.
+// What each instruction does, as one function: the next state, an action, and cycles.
 use super::Action;
 use super::Effect;
 use super::branching::branch_effect;
@@ -15,7 +15,7 @@ ghost use mathlib.Core.Bool.{cond};
 ghost use Prim.Native.Nat.{_+_, _≤_};
 ghost use lib.Dec.{ltb};
 ghost use lib.ListN.{length, getD};
-ghost use Rattle.model.specs.State.{spAfterPush, spAfterPop, withRegister, withPc, withSp, withOut, withFlags, withHalted, withPosition};
+ghost use Rattle.model.specs.State.{spAfterPush, spAfterPop, withRegister, withPc, withSp, withOut, withFlags, withPosition};
 ghost use Rattle.model.specs.Step.{fetched};
 ghost use Rattle.isa.specs.Decode.{decodeOf};
 ghost use Rattle.isa.specs.Table.{rowOf, opcodeIn};

@@ -3,8 +3,8 @@
 use Prim.Native.Nat.{ℕ, zero, suc, _+_, _*_, _/_, _%_}
 use mathlib.Core.Path.{_≡_}
 use mathlib.Core.List.{List, [], _∷_, _++_}
-use lib.ListN.{take, replicate}
 use Rattle.slices.specs.Lists.{mapped}
+use Rattle.slices.specs.Parts.{padded}
 use Rattle.slices.specs.Sizes.{bankSize}
 use Rattle.rules.specs.Grounds.{sheetSize, admitOf}
 use Rattle.rules.specs.Sheet.{Listing, listing}
@@ -30,10 +30,6 @@ argumentsIn (x ∷ xs) = x .argument ∷ argumentsIn xs
 abbrev pub sheetIn : List Word → List ℕ
 sheetIn [] = []
 sheetIn (x ∷ xs) = x .sheet % 256 ∷ x .sheet / 256 ∷ sheetIn xs
-
--- n bytes, 0 past the end of l
-abbrev pub padded : ℕ → List ℕ → List ℕ
-padded n l = take n (l ++ replicate n 0)
 
 abbrev pub fromWords : List Word → List ℕ → Listing
 fromWords xs list =
@@ -125,7 +121,7 @@ cases =
     ∷ case (fromWords (w 0xA8 0x02 0x8000 ∷ w 0xF8 0x00 0x8000 ∷ w 0x5C 0x00 0x8100 ∷ w 0xAC 0x00 0x8101 ∷ []) (0 ∷ 2 ∷ 2 ∷ 1 ∷ [])) 12 3
     -- 14: a call of 5, which is no entry
     ∷ case (fromWords (w 0xA8 0x05 0x8000 ∷ w 0xF8 0x00 0x8000 ∷ []) (0 ∷ 5 ∷ [])) 14 0
-    -- 16: the next word isn't fromWords; V marked after mask; V marked after a call
+    -- 16: the next word isn't described; V marked after mask; V marked after a call
     ∷ case (fromWords (w 0xFC 0x00 0x8000 ∷ []) (0 ∷ 0 ∷ [])) 16 0
     ∷ case (fromWords (w 0x28 0x00 0x8000 ∷ w 0xF8 0x00 0xC000 ∷ []) (0 ∷ 0 ∷ [])) 16 0
     ∷ case (fromWords (w 0x24 0x00 0x8000 ∷ w 0xA8 0x03 0xC000 ∷ w 0xF8 0x00 0xC000 ∷ w 0xAC 0x00 0x8100 ∷ []) (0 ∷ 1 ∷ 3 ∷ 0 ∷ [])) 16 1
@@ -134,7 +130,8 @@ cases =
 -- the number of each case
 abbrev pub shown : List ℕ
 shown =
-    0 ∷ 0 ∷ 13 ∷ 13 ∷ 16 ∷ 15 ∷ 15 ∷ 15 ∷ 16 ∷ 1 ∷ 1 ∷ 2 ∷ 3 ∷ 3 ∷ 3 ∷ 4 ∷ 5 ∷ 6 ∷ 7 ∷ 7 ∷ 8 ∷ 9 ∷ 10 ∷ 11 ∷ 11 ∷ 12 ∷ 12 ∷ 14 ∷ 16 ∷ 16 ∷ 16 ∷ []
+    0 ∷ 0 ∷ 13 ∷ 13 ∷ 16 ∷ 15 ∷ 15 ∷ 15 ∷ 16 ∷ 1 ∷ 1 ∷ 2 ∷ 3 ∷ 3 ∷ 3
+    ∷ 4 ∷ 5 ∷ 6 ∷ 7 ∷ 7 ∷ 8 ∷ 9 ∷ 10 ∷ 11 ∷ 11 ∷ 12 ∷ 12 ∷ 14 ∷ 16 ∷ 16 ∷ 16 ∷ []
 
 -- each listing is answered as worked out, and these are the rules shown: none of 1 to 16 is missing
 pub record Answered : Type 0 where

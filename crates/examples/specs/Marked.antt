@@ -13,9 +13,10 @@ use Rattle.alu.specs.declared.Overflow.the-variants.{Unsettled, Settled}
 use Rattle.model.specs.State.{withRegister, withSp, startState}
 use Rattle.model.specs.Step.{setting, Machine, machineAt, stepOf}
 use Rattle.slices.specs.Lists.{mapped}
+use Rattle.slices.specs.Parts.{padded}
 use Rattle.slices.specs.Sizes.{bankSize}
 use Rattle.rules.specs.Grounds.{admitOf}
-use Rattle.examples.specs.Listings.{padded, fromWords, wordsA, listA, listedA}
+use Rattle.examples.specs.Listings.{fromWords, wordsA, listA, listedA}
 
 -- what a row tells: a result with its flags, the stack's byte at 255 with SP, or admission's answer
 pub data Seen : Type 0 where

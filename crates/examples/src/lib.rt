@@ -1,1 +1,2 @@
-// Listings worked out by hand: what admission answers to each, computed in `proofs/`.
+// Listings worked out by hand with admission's answers, and the rows marked for proof: `specs/` states
+// them, `proofs/` computes them; nothing here runs.

@@ -18,7 +18,7 @@ use Rattle.model.specs.declared.Precheck.the-variants.{Passed, Failed}
 use Rattle.model.specs.declared.Refusal.{Refusal}
 use Rattle.model.specs.declared.Refusal.the-variants.{BadBank, BadPosition, BadBudget}
 use Rattle.model.proofs.Kept.{run-keeps}
-use Rattle.model.proofs.Runs.{runs-on}
+use Rattle.model.proofs.Runs.{runs-on, machine-runs-on}
 use Rattle.model.proofs.Traces.{run-steps, run-cycles, trace-fits}
 
 -- by the two cases of a precheck, with the equation
@@ -83,6 +83,7 @@ module _ (c : Call) where
         counted = tt;
         lengths-kept = record { ram = refl; stack = refl; roll = refl };
         runs-on = λ j n. runs-on (c .setting) j n (machineOf c);
+        machine-runs-on = λ j n. machine-runs-on (c .setting) j n (machineOf c);
       }
 
   ran-promise : refusalOf c ≡ Passed → RunPromise c ran
@@ -96,6 +97,7 @@ module _ (c : Call) where
         counted = counted-ran;
         lengths-kept = lengths-ran;
         runs-on = λ j n. runs-on (c .setting) j n (machineOf c);
+        machine-runs-on = λ j n. machine-runs-on (c .setting) j n (machineOf c);
       }
 
   pub run-promise : RunPromise c (callOf c)

@@ -1,7 +1,7 @@
 -- A run (01, 'The machine'): the steps up to the first stop, the trace that it leaves, and the refusals 17, 18 and 19.
 -- Assumes nothing.
 use Prim.Native.Nat.{ℕ, zero, suc, _+_}
-use mathlib.Core.Bool.{Bool, true, false, not, cond, _&&_, _||_}
+use mathlib.Core.Bool.{Bool, false, not, cond, _&&_, _||_}
 use mathlib.Core.List.{List, [], _∷_}
 use lib.Dec.{eqb, leb, ltb}
 use lib.ListN.{length}
@@ -45,11 +45,12 @@ abbrev pub testsOverflow : Instr → Bool
 testsOverflow i = testsIn (classOf i)
 
 -- "Before each step the first that holds stops it: halted; budget spent; the instruction is jv, jnv, jlt or jle and V is unsettled; it writes
--- to the roll and the roll is full." n is what is left of the budget
+-- to the roll and the roll is full."
 abbrev pub firstStop : Bool → Bool → Bool → Bool → Verdict
 firstStop halted spent unsettled full =
     cond halted (Stopped Halted) (cond spent (Stopped Spent) (cond unsettled (Stopped Unsettled) (cond full (Stopped Full) Go)))
 
+-- n is what is left of the budget
 unfoldable pub verdictOf : Instr → ℕ → Core → Verdict
 verdictOf i n k =
     firstStop (k .state .halted) (eqb n 0) (testsOverflow i && not (isSettled (k .state .flags .v)))

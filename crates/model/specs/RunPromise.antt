@@ -43,6 +43,11 @@ pub record LengthsKept (c : Call) (o : Outcome) : Type 0 where
 abbrev pub RunsOn : Call → Type 0
 RunsOn c = (j n : ℕ) → runOf (c .setting) (j + suc n) (machineOf c) ≡ runOf (c .setting) (suc n) (runOf (c .setting) j (machineOf c) .machine)
 
+-- and leaves the same machine, also where no step more is asked for
+abbrev pub MachineRunsOn : Call → Type 0
+MachineRunsOn c =
+    (j n : ℕ) → runOf (c .setting) (j + n) (machineOf c) .machine ≡ runOf (c .setting) n (runOf (c .setting) j (machineOf c) .machine) .machine
+
 pub record RunPromise (c : Call) (o : Outcome) : Type 0 where
   -- the second demand: "it makes every step up to the first stop, and no other"
   pub computed : o ≡ callOf c
@@ -55,3 +60,4 @@ pub record RunPromise (c : Call) (o : Outcome) : Type 0 where
   pub counted : Counted c (o .answer)
   pub lengths-kept : LengthsKept c o
   pub runs-on : RunsOn c
+  pub machine-runs-on : MachineRunsOn c

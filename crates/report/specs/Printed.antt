@@ -3,16 +3,12 @@
 use Prim.Native.Nat.{ℕ}
 use mathlib.Core.Path.{_≡_}
 use mathlib.Core.List.{List, [], _∷_, _++_}
-use lib.ListN.{take, replicate}
 use Rattle.model.specs.declared.Stop.the-variants.{Spent}
 use Rattle.rules.specs.Grounds.{sheetSize}
+use Rattle.slices.specs.Parts.{padded}
 use Rattle.slices.specs.Sizes.{bankSize}
 use Rattle.report.specs.Desk.{deskText}
 use Rattle.report.specs.Lines.{ascii, decimal, refusedLine, runLine}
-
--- n bytes, "the rest 00"
-abbrev pub padded : ℕ → List ℕ → List ℕ
-padded n l = take n (l ++ replicate n 0)
 
 -- listing A as an input: "0 `30 05`, 1 `A8 04`, 2 `F0 00`, 3 `F8 00`, 4 `5E 00`, 5 `10 01`, 6 `88 00`, 7 `AC 00`"; "Sheet words: 8000 four
 -- times, 8100, 8101, C101, C100", low byte first; "List: 00 02 04 01"

@@ -1,7 +1,7 @@
 -- 01, 'Grounds, in checking order', 1 to 16: every rule as a check with its number and place, in one list; admission answers the first that
 -- is broken. A ground is 01's term for a rule that refuses.
 -- Assumes nothing.
-use Prim.Native.Nat.{ℕ, zero, suc, _+_, _*_, _%_}
+use Prim.Native.Nat.{ℕ, zero, suc, _+_, _%_}
 use mathlib.Core.List.{List, [], _∷_, _++_}
 use mathlib.Core.Bool.{Bool, true, false, not, cond, _&&_, _||_}
 use lib.ListN.{length}

@@ -10,7 +10,7 @@ fn put(s: &mut [u8], at: usize, v: u8) {
 }
 
 // Writes admission's answer to a listing.
-fn judged(name: &[u8], opcodes: &[u8], arguments: &[u8], sheet: &[u8], list: &[u8]) {
+fn print_answer(name: &[u8], opcodes: &[u8], arguments: &[u8], sheet: &[u8], list: &[u8]) {
     let answer = admission::cesca_admit(opcodes, arguments, sheet, list);
     io::write_all(1, name);
     if answer == 0 {
@@ -41,7 +41,7 @@ fn pushes(name: &[u8], last: u8) {
     let mut sheet = [0u8; SHEET_SIZE];
     describe(&mut sheet);
     put(&mut opcodes, 255, last);
-    judged(name, &opcodes, &arguments, &sheet, &[0, 255]);
+    print_answer(name, &opcodes, &arguments, &sheet, &[0, 255]);
 }
 
 // `push R0`, then `jmp 0`, with need 1.
@@ -54,7 +54,7 @@ fn growing_loop() {
     put(&mut sheet, 1, 0x80);
     put(&mut sheet, 2, 1);
     put(&mut sheet, 3, 0x80);
-    judged(
+    print_answer(
         b"push, then jmp 0, need 1",
         &opcodes,
         &arguments,

@@ -168,7 +168,7 @@ fn moving() {
 }
 
 // Calls and jumps, and addresses that go round.
-fn going() {
+fn calls_and_jumps() {
     let calls = b"\xA8\x04\x34\x06\xA5\x00\xF8\x00\x30\x03\xAC\x00\xA0\x08\xFC\x00\xF8\x00";
     vector(b"calls and jumps", calls, 0, b"", 1000, start_state());
     let last = state(255, 255, 0, 0, Overflow::Unsettled, 0);
@@ -330,7 +330,7 @@ fn timed(cycles: u32, clock: u32) {
 fn main() {
     computing();
     moving();
-    going();
+    calls_and_jumps();
     stopping();
     refusing();
     functions();

@@ -44,7 +44,7 @@ fn play(random: &mut Random, listing: &Listing, outcomes: &mut Outcomes) {
         assert_eq!(found, other, "{call:?} with another stack");
         if let Ok(report) = found {
             assert_ne!(report.stop, Stop::Unsettled, "{call:?}");
-            row.begin(call.anew.is_some());
+            row.begin(call.restart.is_some());
             let steps = watched.watched(&call, |found| {
                 row.step(found);
                 outcomes.step(found.instruction, row.is_full());

@@ -16,7 +16,7 @@ pub struct Player {
 impl Player {
     /// What a call reports, or why it is refused; a refused one leaves all as it was.
     pub fn call(&mut self, call: &Call) -> Result<Report, RunRefusal> {
-        let start = call.anew.unwrap_or(self.state);
+        let start = call.restart.unwrap_or(self.state);
         let mut lent = self.lent(call);
         let before = lent.clone();
         let answer = run(lent.lend(), call.budget, start);
@@ -40,7 +40,7 @@ impl Player {
 
     /// The same call made step by step, each shown to `watch`; it isn't refused.
     pub fn watched(&mut self, call: &Call, mut watch: impl FnMut(Found)) -> Report {
-        let start = call.anew.unwrap_or(self.state);
+        let start = call.restart.unwrap_or(self.state);
         let mut memory = self.lent(call);
         let mut total = run(memory.lend(), 0, start).expect("not refused as a whole");
         while total.steps < call.budget {

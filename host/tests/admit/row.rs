@@ -44,8 +44,8 @@ impl Row {
     }
 
     /// Goes on to the next run that isn't refused; the row is emptied if it starts anew.
-    pub fn begin(&mut self, anew: bool) {
-        if anew {
+    pub fn begin(&mut self, restart: bool) {
+        if restart {
             self.entries.clear();
         }
     }

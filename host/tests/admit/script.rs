@@ -12,7 +12,7 @@ pub struct Call {
     pub roll: Vec<u16>,
     pub budget: u32,
     /// The start state, unless the call goes on from the state reached.
-    pub anew: Option<State>,
+    pub restart: Option<State>,
     /// A buffer lent in a bank's place.
     pub wrong: Option<(Bank, Vec<u8>)>,
 }
@@ -26,12 +26,12 @@ impl Call {
             let length = random.pick(&[0, 1, 255, 257, 512]);
             (random.pick(&BANKS), random.bytes(length))
         });
-        let anew = random.once_in(4).then(|| start(random));
+        let restart = random.once_in(4).then(|| start(random));
         Call {
             keys: random.bytes(keys),
             roll: (0..words).map(|_| random.number() as u16).collect(),
             budget: if random.once_in(16) { MOST_STEPS + 1 } else { random.below(budget) },
-            anew,
+            restart,
             wrong,
         }
     }

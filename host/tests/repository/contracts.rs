@@ -1,14 +1,30 @@
 //! What anyone may call asks nothing of the caller: its contract has no `requires`.
 
-use crate::finding::{expect_none, told, Finding};
+use crate::finding::{expect_none, messages, Finding};
 use crate::functions::functions;
 use crate::source::{below, crates, Source};
 
 /// The functions that a crate's users begin with, crate by crate.
-const ENTRIES: [(&str, &[&str]); 3] = [
+const ENTRIES: [(&str, &[&str]); 4] = [
     ("machine", &["run", "step", "running_time"]),
     ("isa", &["decode", "encode", "put"]),
     ("report", &["answer"]),
+    ("demands", &DEMANDS),
+];
+
+/// The functions that promise the demands.
+const DEMANDS: [&str; 11] = [
+    "admit",
+    "run",
+    "step",
+    "running_time",
+    "encode",
+    "put",
+    "instruction_returned",
+    "bytes_returned",
+    "alu",
+    "facts",
+    "examples",
 ];
 
 /// The functions that a file exports to C with a `requires`.
@@ -77,14 +93,14 @@ fn asking() -> Source {
 
 #[test]
 fn an_export_that_asks_is_found() {
-    assert_eq!(told(exports_that_ask(&asking())), ["lib.rt:2: `c_f` has a `requires`"]);
+    assert_eq!(messages(exports_that_ask(&asking())), ["lib.rt:2: `c_f` has a `requires`"]);
 }
 
 #[test]
 fn an_entry_that_asks_or_is_gone_is_found() {
-    assert_eq!(told(entry_findings("f", &[asking()])), ["lib.rt:6: `f` has a `requires`"]);
-    assert_eq!(told(entry_findings("g", &[asking()])), [""; 0]);
+    assert_eq!(messages(entry_findings("f", &[asking()])), ["lib.rt:6: `f` has a `requires`"]);
+    assert_eq!(messages(entry_findings("g", &[asking()])), [""; 0]);
     let gone = ["lib.rt:1: no public `h` here or beside"];
-    assert_eq!(told(entry_findings("h", &[asking()])), gone);
-    assert_eq!(told(entry_findings("h", &[])), ["crates:1: no public `h` here or beside"]);
+    assert_eq!(messages(entry_findings("h", &[asking()])), gone);
+    assert_eq!(messages(entry_findings("h", &[])), ["crates:1: no public `h` here or beside"]);
 }

@@ -25,11 +25,11 @@ impl Display for Finding {
 
 /// Fails with all findings, if there are any.
 pub fn expect_none(findings: Vec<Finding>) {
-    let told: Vec<String> = findings.iter().map(Finding::to_string).collect();
-    assert!(told.is_empty(), "{} found:\n{}", told.len(), told.join("\n"));
+    let messages: Vec<String> = findings.iter().map(Finding::to_string).collect();
+    assert!(messages.is_empty(), "{} found:\n{}", messages.len(), messages.join("\n"));
 }
 
 /// The findings as text, for tests of the checks.
-pub fn told(findings: Vec<Finding>) -> Vec<String> {
+pub fn messages(findings: Vec<Finding>) -> Vec<String> {
     findings.iter().map(Finding::to_string).collect()
 }

@@ -1,6 +1,6 @@
 //! A file of `specs` is what a reader must believe, so it rests on no file of `proofs`.
 
-use crate::finding::{expect_none, told, Finding};
+use crate::finding::{expect_none, messages, Finding};
 use crate::source::{below, crates, lines, Source};
 
 /// The lines of a file that import from proofs.
@@ -28,7 +28,7 @@ fn an_import_from_proofs_is_found() {
     let text = "-- use proofs\nuse lib.L.{getD}\nuse R·s.proofs.L.{m}\n  pub use a.proofs -- b\n";
     let source = Source { file: "S.antt".to_string(), text: text.to_string() };
     let wanted = ["S.antt:3: use R·s.proofs.L.{m}", "S.antt:4: pub use a.proofs"];
-    assert_eq!(told(findings(&source)), wanted);
+    assert_eq!(messages(findings(&source)), wanted);
 }
 
 #[test]

@@ -1,6 +1,6 @@
 //! The README's table of numbers has each ground of the scope paper once.
 
-use crate::finding::{expect_none, told, Finding};
+use crate::finding::{expect_none, messages, Finding};
 use crate::source::{read, Source};
 use crate::table::{rows, Row};
 
@@ -61,14 +61,14 @@ fn each_number_once_is_right() {
 #[test]
 fn a_missing_number_is_found() {
     let found = findings(&readme((1..=LAST).filter(|number| *number != 7)));
-    assert_eq!(told(found), ["README.md:26: 7 has no row"]);
+    assert_eq!(messages(found), ["README.md:26: 7 has no row"]);
 }
 
 #[test]
 fn a_number_again_and_no_number_are_found() {
     let found = findings(&readme((1..=LAST).chain([5, 24])));
     let wanted = ["README.md:28: 5 stands here again", "README.md:29: 24 is no ground's number"];
-    assert_eq!(told(found), wanted);
+    assert_eq!(messages(found), wanted);
 }
 
 #[test]

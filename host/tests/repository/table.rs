@@ -55,7 +55,7 @@ pub fn quoted(text: &str) -> impl Iterator<Item = &str> {
 #[test]
 fn a_table_has_rows_with_headings() {
     let rows = rows("text `a`\n\n| one | two |\n|---|---|\n| 1 | `b`, `c` |\n|2||\nend");
-    let told: Vec<(usize, Vec<(&str, &str)>)> = rows
+    let messages: Vec<(usize, Vec<(&str, &str)>)> = rows
         .iter()
         .map(|row| (row.line, row.cells.iter().map(|cell| (cell.heading, cell.text)).collect()))
         .collect();
@@ -66,7 +66,7 @@ fn a_table_has_rows_with_headings() {
         (6, vec![("one", "2"), ("two", "")]),
         (7, vec![("", "end")]),
     ];
-    assert_eq!(told, wanted);
+    assert_eq!(messages, wanted);
 }
 
 #[test]

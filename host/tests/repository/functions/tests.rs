@@ -41,14 +41,14 @@ fn with_contract(contract: &str) -> String {
 }
 
 /// Name, whether exported, line and line of `requires` of each function.
-fn told(text: &str) -> Vec<(String, bool, usize, Option<usize>)> {
-    let told = |f: Function| (f.name, f.exported, f.line, f.requires);
-    functions(text).into_iter().map(told).collect()
+fn messages(text: &str) -> Vec<(String, bool, usize, Option<usize>)> {
+    let messages = |f: Function| (f.name, f.exported, f.line, f.requires);
+    functions(text).into_iter().map(messages).collect()
 }
 
 #[test]
 fn public_and_exported_functions_are_seen() {
-    assert_eq!(told(MIXED), [("c_f".into(), true, 4, None), ("f".into(), false, 8, None)]);
+    assert_eq!(messages(MIXED), [("c_f".into(), true, 4, None), ("f".into(), false, 8, None)]);
 }
 
 #[test]
@@ -65,7 +65,7 @@ fn a_requires_is_found_wherever_it_stands() {
         (" requires { x }", 2),
     ] {
         let text = with_contract(contract);
-        assert_eq!(told(&text), [("f".into(), false, 2, Some(line))], "{text}");
+        assert_eq!(messages(&text), [("f".into(), false, 2, Some(line))], "{text}");
     }
 }
 
@@ -73,7 +73,7 @@ fn a_requires_is_found_wherever_it_stands() {
 fn other_contracts_have_none() {
     for contract in ["", "\n    ensures { λ r. ⌜ requires r ⌝ }", "\n    // requires { x }"] {
         let text = with_contract(contract);
-        assert_eq!(told(&text), [("f".into(), false, 2, None)], "{text}");
+        assert_eq!(messages(&text), [("f".into(), false, 2, None)], "{text}");
     }
-    assert_eq!(told(OF_OTHERS), [("f".into(), false, 1, None), ("h".into(), false, 11, None)]);
+    assert_eq!(messages(OF_OTHERS), [("f".into(), false, 1, None), ("h".into(), false, 11, None)]);
 }

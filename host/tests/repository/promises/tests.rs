@@ -2,7 +2,7 @@
 
 use super::{gone, unnamed};
 use crate::edits::Crates;
-use crate::finding::told;
+use crate::finding::messages;
 use crate::source::Source;
 
 /// Two crates with an edit of the same name and one of its own each.
@@ -22,7 +22,7 @@ fn two_crates() -> Crates {
 fn found(rows: &str) -> [Vec<String>; 2] {
     let text = format!("| sentence | must-fail edit |\n|---|---|\n{rows}");
     let source = Source { file: "P.md".to_string(), text };
-    [unnamed(&source, &two_crates()), gone(&source, &two_crates())].map(told)
+    [unnamed(&source, &two_crates()), gone(&source, &two_crates())].map(messages)
 }
 
 /// Nothing of either kind.

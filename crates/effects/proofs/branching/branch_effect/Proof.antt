@@ -1,4 +1,4 @@
--- Each course by its clause.
+-- Each outcome by its clause.
 -- Assumes nothing.
 use borrow.Author.Needs.{needs}
 use Rattle.effects.proofs.branching.branch_effect.Statement.{statement}
