@@ -33,10 +33,10 @@ impl<T: Copy + Display + From<u8> + PartialEq> Guarded<T> {
     pub fn differences(&self, wanted: &Guarded<T>) -> Vec<String> {
         let places = (0isize..).zip(self.0.iter().zip(&wanted.0));
         let different = places.filter(|(_, (found, wanted))| found != wanted);
-        let told = different.map(|(at, (found, wanted))| {
+        let differences = different.map(|(at, (found, wanted))| {
             format!("{found} at {}, wanted {wanted}", at - GUARD as isize)
         });
-        told.collect()
+        differences.collect()
     }
 }
 

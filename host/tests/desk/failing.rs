@@ -80,6 +80,6 @@ fn an_output_that_nobody_reads_ends_the_desk() {
     let (reader, writer) = std::io::pipe().expect("a pipe");
     drop(reader);
     let status = ended(writer);
-    let quiet = status.success() || status.signal() == Some(SIGPIPE);
-    assert!(quiet, "{status}");
+    let as_others = status.success() || status.signal() == Some(SIGPIPE);
+    assert!(as_others, "{status}");
 }

@@ -3,6 +3,7 @@
 //! Each check yields findings with file and line, and the parsers are shown texts in which there
 //! is something to find.
 
+mod applying;
 mod contracts;
 mod edits;
 mod finding;

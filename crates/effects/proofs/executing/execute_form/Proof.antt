@@ -1,14 +1,16 @@
 -- Each arm is its clause: the form, and what its calls give. The four forms with an ALU function of their own look into the ALU's table.
 -- Assumes nothing.
 use mathlib.Core.Path.{_≡_, ap, _∙_}
+use mathlib.Core.Bool.{true}
 use lib.ListN.{getD}
 use lib.Seq.{set-out}
 use Rattle.alu.specs.Alu.{aluOf}
-use Rattle.model.specs.State.{withPc}
+use Rattle.model.specs.State.{withPc, withHalted}
 use Rattle.model.specs.Step.{fetched}
 use Rattle.model.specs.declared.State.{State}
 use borrow.Author.Needs.{needs}
-use Rattle.effects.specs.internal.Effects.{behaviorBy, behaviorOf}
+use Rattle.effects.specs.internal.Effects.{effect, behaviorBy, behaviorOf}
+use Rattle.effects.specs.declared.Action.the-variants.{Nothing}
 use Rattle.effects.proofs.Branches.{is-branch}
 use Rattle.effects.proofs.executing.execute_form.Statement.{statement}
 use Rattle.effects.proofs.executing.execute_form.Tie as tie
@@ -99,7 +101,9 @@ returns-26 : tie.Need-returns-26
 returns-26 c = rw (c .before .before .before .instr24 .given .1, c .shown2 .ensures, c .before .load7 .ensures, after-fetch (c .before .before .before .before .before))
 
 returns-27 : tie.Need-returns-27
-returns-27 c = rw (c .before .before .enum-told3 .given .1, c .state-only3 .ensures, c .before .to-halted .ensures, after-fetch (c .before .before .before .before))
+returns-27 c =
+    rw (c .before .before .enum-told3 .given .1, c .state-only3 .ensures, c .before .to-halted .ensures)
+    (ap (λ (s : State). behaviorBy (effect (withHalted s true) Nothing 2)) (after-fetch (c .before .before .before .before)))
 
 returns-28 : tie.Need-returns-28
 returns-28 c = rw (c .before .enum-told4 .given .1, c .state-only4 .ensures, after-fetch (c .before .before .before))

@@ -1,10 +1,7 @@
 -- The tests are those of the definition, in its order.
 -- Assumes nothing.
-use Prim.Native.Nat.{ℕ}
-use mathlib.Core.Path.{_≡_, sym, ap, _∙_}
-use mathlib.Core.Bool.{Bool, true, false, not, _||_}
 use borrow.Author.Tests.{lt-ltb, le-ltb}
-use Rattle.model.specs.Run.{refusalOf}
+use Rattle.model.specs.Run.{maxBudget, refusalOf}
 use Rattle.machine.proofs.calls.refusal.Statement.{statement}
 use Rattle.machine.proofs.calls.refusal.Tie as tie
 
@@ -15,5 +12,5 @@ refusal-spec =
     (tie.spec
     (λ c. rw (c .if1 .taken))
     (λ c. rw (c .before .before .if1 .left, lt-ltb _ _ (c .if2 .taken)))
-    (λ c. rw (c .before .before .before .if1 .left, le-ltb _ _ (c .before .if2 .left), lt-ltb _ _ (c .if3 .taken)))
-    (λ c. rw (c .before .before .before .if1 .left, le-ltb _ _ (c .before .if2 .left), le-ltb _ _ (c .if3 .left))))
+    (λ c. rw (c .before .before .before .if1 .left, le-ltb _ _ (c .before .if2 .left), lt-ltb maxBudget _ (c .if3 .taken)))
+    (λ c. rw (c .before .before .before .if1 .left, le-ltb _ _ (c .before .if2 .left), le-ltb maxBudget _ (c .if3 .left))))
