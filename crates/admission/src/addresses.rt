@@ -146,7 +146,7 @@ pub fn address_ground(opcodes: &[u8], arguments: &[u8], sheet: &[u8], list: &[u8
     if !w.described {
         return 0;
     }
-    let facts = isa::classify(isa::decode(load(opcodes, a), load(arguments, a)));
+    let facts = classes::classify(decoding::decode(load(opcodes, a), load(arguments, a)));
     let class = facts.0;
     let rest = class_ground(class, sheet, list, a, w.routine, w.depth, w.marked);
     first(need_of(list, w.routine) < w.depth, 8, a, rest)

@@ -59,7 +59,7 @@ pub struct TimeNumbers(pub u8, pub u32);
 pub extern "C" fn cesca_decode(opcode: u8, argument: u8) -> Fields
     ensures { λ r. ⌜ Decoded opcode argument r ⌝ }
 {
-    numbers::fields(isa::decode(opcode, argument))
+    numbers::fields(decoding::decode(opcode, argument))
 }
 
 // The two bytes of an instruction, or the number of its refusal.
@@ -67,7 +67,7 @@ pub extern "C" fn cesca_decode(opcode: u8, argument: u8) -> Fields
 pub extern "C" fn cesca_encode(fields: Fields) -> Encoding
     ensures { λ r. ⌜ EncodedAs fields r ⌝ }
 {
-    numbers::encoding(isa::encode(numbers::instruction(fields)))
+    numbers::encoding(encoding::encode(numbers::instruction(fields)))
 }
 
 // 0 and the instruction put into the two banks at an address, or the number of a refusal that
@@ -76,7 +76,7 @@ pub extern "C" fn cesca_encode(fields: Fields) -> Encoding
 pub extern "C" fn cesca_put(fields: Fields, opcodes: &mut [u8], arguments: &mut [u8], at: u8) -> u8
     ensures { λ r. ⌜ PutNumber (instrOf fields) (now (opcodes .entry)) (now (arguments .entry)) at r (now (opcodes .exit)) (now (arguments .exit)) ⌝ }
 {
-    isa::number(isa::put(numbers::instruction(fields), opcodes, arguments, at))
+    encoding::number(encoding::put(numbers::instruction(fields), opcodes, arguments, at))
 }
 
 // Function f of Ra's byte x, Rb's byte y and the carry flag: result and flags as numbers.
@@ -93,9 +93,9 @@ pub extern "C" fn cesca_facts(fields: Fields) -> FactNumbers
     ensures { λ r. ⌜ r ≡ factNumbersOf (instrOf fields) ⌝ }
 {
     let instr = numbers::instruction(fields);
-    let facts = isa::classify(instr);
+    let facts = classes::classify(instr);
     let class = facts.0;
-    numbers::fact_numbers(isa::cycles(instr), class, facts.1)
+    numbers::fact_numbers(rows::cycles(instr), class, facts.1)
 }
 
 // A run's report, or the number of a refusal that leaves everything lent as it was. Crate `runs`

@@ -120,9 +120,9 @@ pub fn encoding(e: Encoded) -> Encoding
 {
     match e {
         Encoded::Bytes(opcode, argument) => Encoding(0, opcode, argument),
-        Encoded::BadBank => Encoding(isa::number(Encoded::BadBank), 0, 0),
-        Encoded::BadRegister => Encoding(isa::number(Encoded::BadRegister), 0, 0),
-        Encoded::BadFunction => Encoding(isa::number(Encoded::BadFunction), 0, 0),
+        Encoded::BadBank => Encoding(encoding::number(Encoded::BadBank), 0, 0),
+        Encoded::BadRegister => Encoding(encoding::number(Encoded::BadRegister), 0, 0),
+        Encoded::BadFunction => Encoding(encoding::number(Encoded::BadFunction), 0, 0),
     }
 }
 

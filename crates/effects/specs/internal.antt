@@ -1,4 +1,2 @@
--- Definitions that only contracts of this crate and of `machine` cite; no promise to a user rests on them.
-pub mod Branches
+-- Definitions that only contracts of the step's own functions cite; no promise to a user rests on them.
 pub mod Effects
-pub mod Operands

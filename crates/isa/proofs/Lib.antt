@@ -3,5 +3,5 @@ pub mod Assigned
 pub mod Banks
 pub mod DecodeEncode
 pub mod EncodeDecode
-pub mod Joined
+pub mod Promises
 pub mod Refusals

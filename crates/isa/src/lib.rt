@@ -1,15 +1,5 @@
-// The instruction set of 003: its forty forms, and their two bytes.
-pub mod classes;
-pub mod decoding;
-pub mod encoding;
-
-pub use classes::classify;
-pub use decoding::decode;
-pub use encoding::cycles;
-pub use encoding::encode;
-pub use encoding::layout;
-pub use encoding::number;
-pub use encoding::put;
+// The instruction set of 003: its forty forms, their rows, and what is told of them. `specs/` says what
+// decoding, encoding and classifying are; nothing here runs.
 
 // A decoded instruction: a case for each row of 003's instruction table, in its order.
 // d is Rd, a is Ra, b is Rb, f the function; imm is Imm8 and addr Addr8.

@@ -1,0 +1,8 @@
+-- Both ways of the test.
+-- Assumes nothing.
+use borrow.Author.Needs.{needs}
+use Rattle.branches.proofs.when_tested.Statement.{statement}
+use Rattle.branches.proofs.when_tested.Tie as tie
+
+pub when-tested-spec : {M : Type 1} → statement M
+when-tested-spec = tie.close (tie.spec (λ c s. rw (c .if1 .taken)) (λ c s. rw (c .if1 .left)))

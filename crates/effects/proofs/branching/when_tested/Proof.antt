@@ -1,8 +1,0 @@
--- Both ways of the test.
--- Assumes nothing.
-use borrow.Author.Needs.{needs}
-use Rattle.effects.proofs.branching.when_tested.Statement.{statement}
-use Rattle.effects.proofs.branching.when_tested.Tie as tie
-
-pub when-tested-spec : {M : Type 1} → statement M
-when-tested-spec = tie.close (tie.spec (λ c s. rw (c .if1 .taken)) (λ c s. rw (c .if1 .left)))

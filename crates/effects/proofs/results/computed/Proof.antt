@@ -1,0 +1,14 @@
+-- Flags and register of the result.
+-- Assumes nothing.
+use borrow.Author.Needs.{needs}
+use Rattle.effects.proofs.results.computed.Statement.{statement}
+use Rattle.effects.proofs.results.computed.Tie as tie
+
+pub computed-spec : {M : Type 1} → statement M
+computed-spec =
+    tie.close
+    (tie.spec
+    (λ c κs. search needs)
+    (λ c κs. search needs)
+    (λ c κs. search needs)
+    (λ c. rw (c .state-only .ensures, c .before .to-register .ensures, c .before .before .to-flags .ensures)))
