@@ -15,9 +15,9 @@ use Rattle.model.specs.declared.State.{State}
 use Rattle.model.specs.declared.Stop.{Stop}
 use Rattle.model.specs.declared.Stop.the-variants.{Halted, Spent, Unsettled, Full}
 use Rattle.model.proofs.Promises.{by-precheck, checks-pass, passed-checks, passed-call, failed-call}
-use Rattle.boundary.specs.Runs.{stopNumber, runNumbers, RunNumbered, timeNumbers, TimeNumbered}
-use Rattle.boundary.specs.declared.RunNumbers.{RunNumbers}
-use Rattle.boundary.specs.declared.TimeNumbers.{TimeNumbers}
+use Rattle.run_numbers.specs.Runs.{stopNumber, runNumbers, RunNumbered, timeNumbers, TimeNumbered}
+use Rattle.run_numbers.specs.declared.RunNumbers.{RunNumbers}
+use Rattle.run_numbers.specs.declared.TimeNumbers.{TimeNumbers}
 use Rattle.demands.specs.First.{runRules, onlyNumber, FourStops, halted, spent, unsettled, full, FirstOfRun, timeRules, FirstOfTime}
 use Rattle.demands.specs.Second.{stopNumbered, RunReported, SecondOfRun}
 

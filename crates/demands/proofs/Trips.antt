@@ -6,9 +6,10 @@ use mathlib.Core.List.{List}
 use Rattle.isa.specs.Encode.{encodeOf, putOf}
 use Rattle.isa.specs.declared.Encoded.{Encoded}
 use Rattle.isa.specs.declared.Encoded.the-variants.{Bytes, BadBank, BadRegister, BadFunction}
-use Rattle.boundary.specs.Numbers.{fieldsOf, instrOf, encodingOf, Decoded, EncodedAs, PutNumber}
-use Rattle.boundary.specs.declared.Encoding.{Encoding}
-use Rattle.boundary.specs.declared.Fields.{Fields}
+use Rattle.numbers.specs.Numbers.{fieldsOf, instrOf, encodingOf}
+use Rattle.boundary.specs.Exports.{Decoded, EncodedAs, PutNumber}
+use Rattle.numbers.specs.declared.Encoding.{Encoding}
+use Rattle.numbers.specs.declared.Fields.{Fields}
 use Rattle.demands.specs.First.{FirstOfEncode, FirstOfPut}
 use Rattle.demands.specs.Second.{InstructionReturns, BytesReturn}
 

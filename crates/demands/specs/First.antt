@@ -15,12 +15,12 @@ use Rattle.isa.specs.declared.Instr.{Instr}
 use Rattle.model.specs.Run.{Call}
 use Rattle.rules.specs.Grounds.{checks}
 use Rattle.rules.specs.Sheet.{Listing}
-use Rattle.boundary.specs.Numbers.{instrOf}
-use Rattle.boundary.specs.Runs.{stateNumbers}
-use Rattle.boundary.specs.declared.Encoding.{Encoding}
-use Rattle.boundary.specs.declared.Fields.{Fields}
-use Rattle.boundary.specs.declared.RunNumbers.{RunNumbers}
-use Rattle.boundary.specs.declared.TimeNumbers.{TimeNumbers}
+use Rattle.numbers.specs.Numbers.{instrOf}
+use Rattle.run_numbers.specs.Runs.{stateNumbers}
+use Rattle.numbers.specs.declared.Encoding.{Encoding}
+use Rattle.numbers.specs.declared.Fields.{Fields}
+use Rattle.run_numbers.specs.declared.RunNumbers.{RunNumbers}
+use Rattle.run_numbers.specs.declared.TimeNumbers.{TimeNumbers}
 
 -- what keeps every rule is accepted; everything else is refused by the first rule it breaks: rules before it hold, and the answer is its
 -- number + 256 × its place

@@ -24,13 +24,13 @@ use Rattle.model.specs.declared.Stop.{Stop}
 use Rattle.model.specs.declared.Stop.the-variants.{Halted, Spent, Unsettled, Full}
 use Rattle.model.specs.declared.Verdict.{Verdict}
 use Rattle.model.specs.declared.Verdict.the-variants.{Go, Stopped}
-use Rattle.boundary.specs.Numbers.{fieldsOf, instrOf, computedNumbers, factNumbersOf}
-use Rattle.boundary.specs.Runs.{stateNumbers}
-use Rattle.boundary.specs.declared.ComputedNumbers.{ComputedNumbers}
-use Rattle.boundary.specs.declared.Encoding.{Encoding}
-use Rattle.boundary.specs.declared.FactNumbers.{FactNumbers}
-use Rattle.boundary.specs.declared.Fields.{Fields}
-use Rattle.boundary.specs.declared.RunNumbers.{RunNumbers}
+use Rattle.numbers.specs.Numbers.{fieldsOf, instrOf, computedNumbers, factNumbersOf}
+use Rattle.run_numbers.specs.Runs.{stateNumbers}
+use Rattle.numbers.specs.declared.ComputedNumbers.{ComputedNumbers}
+use Rattle.numbers.specs.declared.Encoding.{Encoding}
+use Rattle.numbers.specs.declared.FactNumbers.{FactNumbers}
+use Rattle.numbers.specs.declared.Fields.{Fields}
+use Rattle.run_numbers.specs.declared.RunNumbers.{RunNumbers}
 use Rattle.demands.specs.First.{runRules, encodeRules}
 
 -- ---- a step

@@ -1,21 +1,21 @@
 // The three demands, whole, of the functions that are exported and of the step that runs: each
 // function here only calls one of them and promises the demand's sentence, so a contract that is
 // weakened below fails here.
-use boundary::ComputedNumbers;
-use boundary::Encoding;
-use boundary::FactNumbers;
-use boundary::Fields;
-use boundary::RunNumbers;
-use boundary::StateNumbers;
-use boundary::TimeNumbers;
 use machine::StepResult;
 use model::State;
+use numbers::ComputedNumbers;
+use numbers::Encoding;
+use numbers::FactNumbers;
+use numbers::Fields;
+use run_numbers::RunNumbers;
+use run_numbers::StateNumbers;
+use run_numbers::TimeNumbers;
 ghost use Rattle.examples.specs.Listings.{Answered};
 ghost use Rattle.examples.specs.Marked.{Marked};
 ghost use Rattle.model.specs.Run.{call, stepsBy};
 ghost use Rattle.model.specs.Step.{setting, machineAt};
 ghost use Rattle.rules.specs.Sheet.{listing};
-ghost use Rattle.boundary.specs.Runs.{stateOf};
+ghost use Rattle.run_numbers.specs.Runs.{stateOf};
 ghost use Rattle.demands.specs.First.{FirstOfListing, FirstOfRun, FirstOfTime, FirstOfEncode, FirstOfPut};
 ghost use Rattle.demands.specs.Second.{SecondOfStep, SecondOfRun, SecondOfAlu, SecondOfFacts, InstructionReturns, BytesReturn};
 ghost use Rattle.demands.specs.Third.{ThirdDemand};

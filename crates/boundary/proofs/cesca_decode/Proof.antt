@@ -1,8 +1,8 @@
 -- The numbers of what was decoded, which are those of that instruction alone.
 -- Assumes nothing.
 use mathlib.Core.Path.{ap, _∙_}
-use Rattle.boundary.specs.Numbers.{fieldsOf}
-use Rattle.boundary.proofs.FieldsInverse.{fields-inverse}
+use Rattle.numbers.specs.Numbers.{fieldsOf}
+use Rattle.numbers.proofs.FieldsInverse.{fields-inverse}
 use borrow.Author.Needs.{needs}
 use Rattle.boundary.proofs.cesca_decode.Statement.{statement}
 use Rattle.boundary.proofs.cesca_decode.Tie as tie
@@ -16,6 +16,6 @@ cesca-decode-spec =
     (λ c.
     let d = c .before .decode .ensures in
     record {
-      table = c .fields .ensures ∙ ap fieldsOf (d .table);
-      decodes = rw (c .fields .ensures, fields-inverse) d;
+      table = c .fields-of .ensures ∙ ap fieldsOf (d .table);
+      decodes = rw (c .fields-of .ensures, fields-inverse) d;
     }))

@@ -2,8 +2,8 @@
 -- Assumes nothing.
 use mathlib.Core.Path.{ap, _∙_}
 use Rattle.isa.specs.Encode.{encodeOf}
-use Rattle.boundary.specs.Numbers.{encodingOf}
-use Rattle.boundary.proofs.FieldsInverse.{number-checked, bytes-held, bytes-read-back}
+use Rattle.numbers.specs.Numbers.{encodingOf}
+use Rattle.numbers.proofs.FieldsInverse.{number-checked, bytes-held, bytes-read-back}
 use borrow.Author.Needs.{needs}
 use Rattle.boundary.proofs.cesca_encode.Statement.{statement}
 use Rattle.boundary.proofs.cesca_encode.Tie as tie
@@ -16,7 +16,7 @@ cesca-encode-spec =
     (λ c κs. search needs)
     (λ c κs. search needs)
     (λ c.
-    let n = c .encoding .ensures in
+    let n = c .encoding-of .ensures in
     let e = c .before .encode .ensures in
     let i = c .before .before .instruction .ensures in
     record {

@@ -1,7 +1,7 @@
 -- The result is the table's.
 -- Assumes nothing.
 use mathlib.Core.Path.{ap, _∙_}
-use Rattle.boundary.specs.Numbers.{computedNumbers}
+use Rattle.numbers.specs.Numbers.{computedNumbers}
 use borrow.Author.Needs.{needs}
 use Rattle.demands.proofs.alu.Statement.{statement}
 use Rattle.demands.proofs.alu.Tie as tie
