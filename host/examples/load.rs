@@ -1,8 +1,8 @@
 //! A loader: admits the listing in a file and runs it with the keys named behind it:
 //! `cargo run --example load -- ../listings/multiply.bin 1 2 3`.
 
-use cesca_host::reference::Listing;
-use cesca_host::{admit, run, Lent, State, MOST_STEPS};
+use cesca::{admit, run, Lent, State, MOST_STEPS};
+use reference::Listing;
 use std::env;
 use std::error::Error;
 use std::fs;

@@ -1,7 +1,7 @@
 //! All forms with good and bad fields, the library beside the reference.
 
-use cesca_host::reference::{Form, Instruction};
-use cesca_host::{decode, encode, facts, Class, Effect, Facts, Fields, Refusal};
+use cesca::{decode, encode, facts, Class, Effect, Facts, Fields, Refusal};
+use reference::{Form, Instruction};
 
 /// The letters of Rd, Ra, function, Rb and immediate or address in a machine code.
 const LETTERS: [&str; 5] = ["D", "A", "F", "B", "I@"];

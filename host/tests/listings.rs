@@ -5,9 +5,9 @@ mod described;
 #[path = "common/stored.rs"]
 mod stored;
 
-use cesca_host::reference::{self, Listing};
-use cesca_host::{admit, Ground};
+use cesca::{admit, Ground};
 use described::{described, file, Described};
+use reference::Listing;
 use stored::{names, path, read, text};
 
 /// The answer that a printed text stands for.

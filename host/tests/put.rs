@@ -1,7 +1,7 @@
 //! Instructions put into banks: one place changed, or nothing at all.
 
-use cesca_host::reference::{Form, Instruction, BANK};
-use cesca_host::{put, Fields, Refusal};
+use cesca::{put, Fields, Refusal, BANK};
+use reference::{Form, Instruction};
 
 /// The bytes kept on either side of a lent bank.
 const GUARD: usize = 16;

@@ -1,8 +1,8 @@
 //! The one answer of library and reference.
 
 use crate::memory::Guarded;
-use cesca_host::reference::Listing;
-use cesca_host::{admit, Ground};
+use cesca::{admit, Ground};
+use reference::Listing;
 
 /// The answer of library and reference, which write nothing to what they are lent.
 pub fn answer(listing: &Listing) -> Result<(), Ground> {

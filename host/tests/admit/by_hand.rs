@@ -5,8 +5,8 @@ mod parts;
 mod successors;
 
 use crate::answer::answer;
-use cesca_host::reference::Listing;
-use cesca_host::Ground;
+use cesca::Ground;
+use reference::Listing;
 
 /// Checks that library and reference refuse a listing on this ground.
 fn check(listing: &Listing, number: u8, place: u8) {

@@ -5,7 +5,8 @@ use crate::counts::Counts;
 use crate::damage::Damage;
 use crate::filled::admitted;
 use crate::random::{each_case, Random};
-use cesca_host::reference::{Listing, BANK, SHEET};
+use cesca::{BANK, SHEET};
+use reference::Listing;
 
 /// The admitted listings drawn.
 const CASES: u64 = 30_000;

@@ -1,7 +1,7 @@
 //! What the answers came to, so that nothing goes untested.
 
 use crate::damage::Damage;
-use cesca_host::Ground;
+use cesca::Ground;
 
 /// How often a kind of answer must be met.
 const ENOUGH: u64 = 100;

@@ -9,8 +9,8 @@ use crate::player::Player;
 use crate::random::{each_case, Random};
 use crate::row::Row;
 use crate::script::{banks, start, Call};
-use cesca_host::reference::Listing;
-use cesca_host::Stop;
+use cesca::Stop;
+use reference::Listing;
 
 /// The lists made.
 const LISTS: u64 = 10_000;

@@ -1,7 +1,7 @@
 //! What the lists of runs came to, so that nothing goes untested.
 
-use cesca_host::reference::Instruction;
-use cesca_host::{Class, Report, RunRefusal};
+use cesca::{Class, Report, RunRefusal};
+use reference::Instruction;
 
 /// How often each thing was met.
 #[derive(Debug, Default)]

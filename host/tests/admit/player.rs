@@ -3,8 +3,8 @@
 use crate::memory::{Guarded, Memory};
 use crate::row::Found;
 use crate::script::Call;
-use cesca_host::reference::Instruction;
-use cesca_host::{decode, run, Lent, Report, RunRefusal, State, Stop};
+use cesca::{decode, run, Lent, Report, RunRefusal, State, Stop};
+use reference::Instruction;
 
 /// A list under way: its banks and the state reached.
 #[derive(Clone)]

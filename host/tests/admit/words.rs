@@ -1,7 +1,7 @@
 //! Every opcode, under each kind of sheet word and before each kind.
 
 use crate::answer::answer;
-use cesca_host::reference::Listing;
+use reference::Listing;
 
 /// `hlt` wherever something is described, so that only the word put at 6 or 255 is judged.
 const STILL: &str = "

@@ -2,7 +2,7 @@
 
 use crate::memory::{Guarded, Memory, BANKS};
 use crate::MACHINES;
-use cesca_host::{RunRefusal, State};
+use cesca::{RunRefusal, State};
 
 /// A program that would write to ram, stack and roll, with two keys and a roll of one word.
 fn memory() -> Memory {

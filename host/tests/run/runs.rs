@@ -5,7 +5,7 @@ use crate::memory::Memory;
 use crate::random::each_case;
 use crate::tally::Tally;
 use crate::Machine;
-use cesca_host::{plain, predecoded, reference};
+use baselines::{plain, predecoded};
 
 /// The calls made of each machine.
 const CASES: u64 = 250_000;
@@ -45,7 +45,7 @@ fn differences(found: &Memory, wanted: &Memory) -> String {
 
 #[test]
 fn the_library_runs_as_the_reference() {
-    check(cesca_host::run);
+    check(cesca::run);
 }
 
 #[test]

@@ -1,7 +1,7 @@
 //! What random runs came to, so that nothing goes untested.
 
-use cesca_host::reference::{Form, Step};
-use cesca_host::{Class, Report, RunRefusal};
+use cesca::{Class, Report, RunRefusal};
+use reference::{Form, Step};
 
 /// How often each thing was met.
 pub struct Tally {

@@ -1,7 +1,7 @@
 //! Running times: the paper's examples, the edges, and the nearest tenth in exact numbers.
 
 use crate::random::each_case;
-use cesca_host::{running_time, TimeRefusal};
+use cesca::{running_time, TimeRefusal};
 
 /// Clocks at and near the edges that are allowed.
 const CLOCKS: [u32; 16] =

@@ -2,8 +2,8 @@
 
 use crate::listings::listings;
 use crate::timing::{medians, timed, REPETITIONS};
-use cesca_host::reference::{self, Listing};
-use cesca_host::{admit, Ground};
+use cesca::{admit, Ground};
+use reference::Listing;
 use std::hint::black_box;
 
 /// The admissions that are timed together.

@@ -1,6 +1,7 @@
 //! Listings to admit or to refuse, early and late.
 
-use cesca_host::reference::{Listing, SheetWord, BANK};
+use cesca::BANK;
+use reference::{Listing, SheetWord};
 
 /// The entry of the last routine of a listing full of calls.
 const LAST_ENTRY: u8 = 252;

@@ -1,8 +1,9 @@
 //! The three machines on one program, each with buffers of its own.
 
 use crate::timing::{medians, timed};
-use cesca_host::reference::{Listing, BANK};
-use cesca_host::{plain, predecoded, run, Lent, Report, RunRefusal, State};
+use baselines::{plain, predecoded};
+use cesca::{run, Lent, Report, RunRefusal, State, BANK};
+use reference::Listing;
 use std::hint::black_box;
 
 /// The words of the roll, more than a program here writes.
