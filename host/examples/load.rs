@@ -12,8 +12,8 @@ fn main() -> Result<(), Box<dyn Error>> {
     let file = words.next().ok_or("name a listing's file")?;
     let keys = words.map(|word| word.parse()).collect::<Result<Vec<u8>, _>>()?;
     let Listing { opcodes, arguments, sheet, list } = Listing::cut(&fs::read(file)?);
-    if let Err(ground) = admit(&opcodes, &arguments, &sheet, &list) {
-        println!("refused {ground}");
+    if let Err(refusal) = admit(&opcodes, &arguments, &sheet, &list) {
+        println!("refused {refusal}");
         return Ok(());
     }
     let lent = Lent {
@@ -24,7 +24,7 @@ fn main() -> Result<(), Box<dyn Error>> {
         stack: &mut [0; 256],
         roll: &mut [0; 1_000],
     };
-    let report = run(lent, MOST_STEPS, State::start()).map_err(|refusal| format!("{refusal:?}"))?;
+    let report = run(lent, MOST_STEPS, State::start())?;
     println!("{:?} after {} steps, OUT {}", report.stop, report.steps, report.state.out);
     Ok(())
 }

@@ -2,12 +2,12 @@
 //! the opcode in one loop, and all of the state in locals.
 
 use crate::parts::{exchange, key, pop, push, send, Alu, Memory};
-use cesca_types::{Lent, Overflow, Report, RunRefusal, State, Stop};
+use cesca_types::{Lent, Overflow, Refusal, Report, State, Stop};
 use std::hint::cold_path;
 
 /// What a run of at most `budget` steps from `start` reports, or why there is none.
 #[expect(clippy::manual_range_patterns, reason = "ranges would be compared one by one")]
-pub fn run(lent: Lent<'_>, budget: u32, start: State) -> Result<Report, RunRefusal> {
+pub fn run(lent: Lent<'_>, budget: u32, start: State) -> Result<Report, Refusal> {
     let memory = Memory::checked(lent, budget, start.position)?;
     let Memory { opcodes, arguments, keys, ram, stack, roll } = memory;
     let State { mut regs, mut pc, mut sp, mut out, mut flags, mut halted, mut position } = start;

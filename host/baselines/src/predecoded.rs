@@ -5,13 +5,13 @@ mod registers;
 mod word;
 
 use crate::parts::{exchange, key, pop, push, send, Alu, Memory};
-use cesca_types::{Lent, Overflow, Report, RunRefusal, State, Stop};
+use cesca_types::{Lent, Overflow, Refusal, Report, State, Stop};
 use registers::Registers;
 use std::hint::cold_path;
 use word::{Operation::*, Word};
 
 /// What a run of at most `budget` steps from `start` reports, or why there is none.
-pub fn run(lent: Lent<'_>, budget: u32, start: State) -> Result<Report, RunRefusal> {
+pub fn run(lent: Lent<'_>, budget: u32, start: State) -> Result<Report, Refusal> {
     let memory = Memory::checked(lent, budget, start.position)?;
     let Memory { opcodes, arguments, keys, ram, stack, roll } = memory;
     let State { regs, mut pc, mut sp, mut out, mut flags, mut halted, mut position } = start;

@@ -37,9 +37,8 @@
 //! }
 //! let admit = |list: [u8; 4]| cesca::admit(&opcodes, &arguments, &sheet, &list);
 //! assert_eq!(admit([0x00, 0x02, 0x04, 0x01]), Ok(()));
-//! let ground = admit([0x00, 0x01, 0x04, 0x01]).unwrap_err();
-//! assert_eq!((ground.number, ground.place), (15, 1));
-//! assert_eq!(ground.to_string(), "15 at 1");
+//! let refusal = admit([0x00, 0x01, 0x04, 0x01]).unwrap_err();
+//! assert_eq!((refusal.number(), refusal.place()), (15, Some(1)));
 //! ```
 
 #![warn(missing_docs)]
@@ -117,7 +116,7 @@ pub fn facts(fields: Fields) -> Facts {
 /// The slices may have any length; nothing is written to them.
 // Inlined, so that the slices go to the library without being stored and loaded again.
 #[inline]
-pub fn admit(opcodes: &[u8], arguments: &[u8], sheet: &[u8], list: &[u8]) -> Result<(), Ground> {
+pub fn admit(opcodes: &[u8], arguments: &[u8], sheet: &[u8], list: &[u8]) -> Result<(), Refusal> {
     // SAFETY: each pointer comes with the length of the slice behind it, which is only read.
     let answer = unsafe {
         raw::admit::cesca_admit(
@@ -141,7 +140,7 @@ pub fn admit(opcodes: &[u8], arguments: &[u8], sheet: &[u8], list: &[u8]) -> Res
 /// position past the end of the keys, then a budget over [`MOST_STEPS`].
 // Inlined, so that what is lent goes to the library without being stored and loaded again.
 #[inline]
-pub fn run(lent: Lent<'_>, budget: u32, start: State) -> Result<Report, RunRefusal> {
+pub fn run(lent: Lent<'_>, budget: u32, start: State) -> Result<Report, Refusal> {
     // SAFETY: the state is a whole one.
     unsafe { raw::run::call(lent, budget, MaybeUninit::new(start)) }.outcome()
 }
@@ -150,7 +149,7 @@ pub fn run(lent: Lent<'_>, budget: u32, start: State) -> Result<Report, RunRefus
 ///
 /// It is rounded to the nearest tenth, a half going up. First a clock of 0 or over
 /// [`FASTEST_CLOCK`] is refused, then cycles over [`MOST_CYCLES`].
-pub fn running_time(cycles: u32, clock: u32) -> Result<u32, TimeRefusal> {
+pub fn running_time(cycles: u32, clock: u32) -> Result<u32, Refusal> {
     // SAFETY: plain numbers in and out; the library asks nothing of them.
     unsafe { raw::run::cesca_running_time(cycles, clock) }.outcome()
 }

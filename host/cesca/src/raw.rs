@@ -3,7 +3,7 @@
 pub mod admit;
 pub mod run;
 
-use crate::{AluAnswer, Class, Effect, Facts, Fields, Overflow, Refusal};
+use cesca_types::{AluAnswer, Class, Effect, Facts, Fields, Overflow, Refusal};
 use std::fmt::Display;
 
 /// An encoder's answer: 0 and the word, or a ground's number and zero bytes.
@@ -54,9 +54,7 @@ extern "C" {
 pub fn outcome(number: u8) -> Result<(), Refusal> {
     match number {
         0 => Ok(()),
-        1 => Err(Refusal::Bank),
-        22 => Err(Refusal::Register),
-        23 => Err(Refusal::Function),
+        1 | 22 | 23 => Err(Refusal::of_call(number)),
         _ => unknown("refusal", number),
     }
 }

@@ -4,11 +4,11 @@ mod place;
 
 use super::sheet::{routines, words};
 use super::{Instruction, Routine, SheetWord};
-use cesca_types::{Ground, BANK, MOST_ROUTINES, SHEET};
+use cesca_types::{Refusal, BANK, MOST_ROUTINES, SHEET};
 use place::Place;
 
 /// Success if the listing is admitted, else the first ground that refuses it.
-pub fn admit(opcodes: &[u8], arguments: &[u8], sheet: &[u8], list: &[u8]) -> Result<(), Ground> {
+pub fn admit(opcodes: &[u8], arguments: &[u8], sheet: &[u8], list: &[u8]) -> Result<(), Refusal> {
     refuse_whole(1, opcodes.len() != BANK || arguments.len() != BANK)?;
     refuse_whole(2, sheet.len() != SHEET)?;
     let odd = !list.len().is_multiple_of(2);
@@ -18,12 +18,12 @@ pub fn admit(opcodes: &[u8], arguments: &[u8], sheet: &[u8], list: &[u8]) -> Res
 }
 
 /// The ground with this number if there is a place that breaks it.
-fn refuse(number: u8, place: Option<u8>) -> Result<(), Ground> {
-    place.map_or(Ok(()), |place| Err(Ground { number, place }))
+fn refuse(number: u8, place: Option<u8>) -> Result<(), Refusal> {
+    place.map_or(Ok(()), |place| Err(Refusal::of_listing(number, place)))
 }
 
 /// The ground with this number, which has no place, if it is broken.
-fn refuse_whole(number: u8, broken: bool) -> Result<(), Ground> {
+fn refuse_whole(number: u8, broken: bool) -> Result<(), Refusal> {
     refuse(number, broken.then_some(0))
 }
 
@@ -37,7 +37,7 @@ struct Opened<'a> {
 
 impl Opened<'_> {
     /// Success, or the first ground from 4 on.
-    fn check(&self) -> Result<(), Ground> {
+    fn check(&self) -> Result<(), Refusal> {
         refuse(4, self.lowest(|word| !word.described() && word != SheetWord(0)))?;
         refuse(5, self.lowest(|word| word.described() && self.routine(word).is_none()))?;
         refuse_whole(6, self.routines[0].entry != 0)?;
@@ -85,11 +85,10 @@ impl Opened<'_> {
 #[cfg(test)]
 mod tests {
     use crate::Listing;
-    use cesca_types::Ground;
 
     #[test]
     fn listing_a_and_the_marked_answers() {
-        let answer = |listing: Listing| listing.admit().map_err(Ground::answer);
+        let answer = |listing: Listing| listing.admit().map_err(|refusal| refusal.answer());
         assert_eq!(answer(Listing::a()), Ok(()));
         assert_eq!(answer(Listing::a().with_list(&[0, 1, 4, 1])), Err(271)); // M9
         assert_eq!(answer(Listing::a().with_sheet(2, 0xC000)), Err(272)); // M10

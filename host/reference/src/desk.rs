@@ -12,8 +12,9 @@ const BUDGET: u32 = 1_000;
 /// What the desk prints on this input.
 pub fn desk(input: &[u8]) -> String {
     let listing = Listing::cut(&input[..input.len().min(MOST_READ)]);
-    if let Err(ground) = listing.admit() {
-        return format!("refused {ground}\n");
+    if let Err(refusal) = listing.admit() {
+        let place = refusal.place().expect("a listing's refusal has a place");
+        return format!("refused {} at {place}\n", refusal.number());
     }
     let need = listing.list[1];
     let Report { stop, steps, cycles, state, .. } = run_alone(&listing);

@@ -64,7 +64,7 @@ impl Instruction {
     /// Puts the word at an address of the two banks, or says why not and changes nothing.
     pub fn put(self, opcodes: &mut [u8], arguments: &mut [u8], at: u8) -> Result<(), Refusal> {
         if opcodes.len() != BANK || arguments.len() != BANK {
-            return Err(Refusal::Bank);
+            return Err(Refusal::of_call(1));
         }
         let [opcode, argument] = self.encode()?;
         opcodes[usize::from(at)] = opcode;
@@ -89,9 +89,9 @@ impl Instruction {
     fn check(self) -> Result<(), Refusal> {
         let own = self.trimmed();
         if [own.d, own.a, own.b].into_iter().any(|register| register > LAST_REGISTER) {
-            Err(Refusal::Register)
+            Err(Refusal::of_call(22))
         } else if own.f > LAST_FUNCTION {
-            Err(Refusal::Function)
+            Err(Refusal::of_call(23))
         } else {
             Ok(())
         }

@@ -4,7 +4,7 @@ mod text;
 
 use super::sheet::words;
 use super::{admit, SheetWord};
-use cesca_types::{Ground, BANK, SHEET};
+use cesca_types::{Refusal, BANK, SHEET};
 
 /// Listing A of the scope paper.
 const A: &str = "
@@ -72,7 +72,7 @@ impl Listing {
     }
 
     /// The reference's answer on the listing.
-    pub fn admit(&self) -> Result<(), Ground> {
+    pub fn admit(&self) -> Result<(), Refusal> {
         admit(&self.opcodes, &self.arguments, &self.sheet, &self.list)
     }
 

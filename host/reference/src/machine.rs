@@ -3,7 +3,7 @@
 mod step;
 
 use super::{Form, Instruction};
-use cesca_types::{Lent, Overflow, Report, RunRefusal, State, Stop, BANK, MOST_STEPS};
+use cesca_types::{Lent, Overflow, Refusal, Report, State, Stop, BANK, MOST_STEPS};
 
 /// A step as it was made.
 #[derive(Clone, Copy, Debug)]
@@ -17,7 +17,7 @@ pub struct Step {
 }
 
 /// What a run of at most `budget` steps from `start` reports, or why there is none.
-pub fn run(lent: Lent<'_>, budget: u32, start: State) -> Result<Report, RunRefusal> {
+pub fn run(lent: Lent<'_>, budget: u32, start: State) -> Result<Report, Refusal> {
     run_watched(lent, budget, start, |_| ())
 }
 
@@ -27,7 +27,7 @@ pub fn run_watched(
     budget: u32,
     start: State,
     mut watch: impl FnMut(Step),
-) -> Result<Report, RunRefusal> {
+) -> Result<Report, Refusal> {
     check(&lent, budget, start)?;
     let mut machine = Machine { lent, state: start, words: 0 };
     let (mut steps, mut cycles) = (0, 0);
@@ -46,14 +46,14 @@ pub fn run_watched(
 }
 
 /// Whether a run may begin.
-fn check(lent: &Lent<'_>, budget: u32, start: State) -> Result<(), RunRefusal> {
+fn check(lent: &Lent<'_>, budget: u32, start: State) -> Result<(), Refusal> {
     let banks = [lent.opcodes, lent.arguments, lent.ram, lent.stack];
     if banks.into_iter().any(|bank| bank.len() != BANK) {
-        Err(RunRefusal::Bank)
+        Err(Refusal::of_call(17))
     } else if start.position > lent.keys.len() {
-        Err(RunRefusal::Position)
+        Err(Refusal::of_call(18))
     } else if budget > MOST_STEPS {
-        Err(RunRefusal::Budget)
+        Err(Refusal::of_call(19))
     } else {
         Ok(())
     }

@@ -18,10 +18,10 @@ mod time;
 mod transfers;
 
 use baselines::{plain, predecoded};
-use cesca::{Lent, Report, RunRefusal, State};
+use cesca::{Lent, Refusal, Report, State};
 
 /// A machine: what a run reports, or why it is refused.
-type Machine = fn(Lent<'_>, u32, State) -> Result<Report, RunRefusal>;
+type Machine = fn(Lent<'_>, u32, State) -> Result<Report, Refusal>;
 
 /// The machines by name.
 const MACHINES: [(&str, Machine); 4] = [

@@ -18,7 +18,7 @@ fn check(machine: Machine) {
         let mut wanted_memory = before.clone();
         let lent = wanted_memory.lend();
         let wanted = reference::run_watched(lent, budget, start, |step| tally.step(step));
-        tally.outcome(wanted);
+        tally.outcome(&wanted);
 
         let mut memory = before.clone();
         let found = machine(memory.lend(), budget, start);

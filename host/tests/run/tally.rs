@@ -1,6 +1,6 @@
 //! What random runs came to, so that nothing goes untested.
 
-use cesca::{Class, Report, RunRefusal};
+use cesca::{Class, Refusal, Report};
 use reference::{Form, Step};
 
 /// How often each thing was met.
@@ -55,7 +55,7 @@ impl Tally {
     }
 
     /// Counts an outcome.
-    pub fn outcome(&mut self, outcome: Result<Report, RunRefusal>) {
+    pub fn outcome(&mut self, outcome: &Result<Report, Refusal>) {
         match outcome {
             Ok(report) => self.stops[report.stop as usize] += 1,
             Err(refusal) => self.refusals[usize::from(refusal.number()) - 17] += 1,

@@ -18,28 +18,6 @@ pub struct Fields {
     pub imm: u8,
 }
 
-/// Why a form can't be encoded or put.
-#[derive(Clone, Copy, Debug, PartialEq, Eq)]
-pub enum Refusal {
-    /// The opcode or argument bank isn't 256 bytes.
-    Bank,
-    /// A register number is over 3.
-    Register,
-    /// The function number is over 15.
-    Function,
-}
-
-impl Refusal {
-    /// The ground's number.
-    pub fn number(self) -> u8 {
-        match self {
-            Refusal::Bank => 1,
-            Refusal::Register => 22,
-            Refusal::Function => 23,
-        }
-    }
-}
-
 /// The overflow flag V, with the library's numbers.
 #[repr(u8)]
 #[derive(Clone, Copy, Debug, PartialEq, Eq)]

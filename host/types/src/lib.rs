@@ -4,12 +4,12 @@
 #![warn(missing_docs)]
 
 mod answers;
-mod ground;
 mod limits;
 mod machine;
+mod refusal;
 
-pub use answers::{AluAnswer, Class, Effect, Facts, Fields, Overflow, Refusal};
-pub use ground::Ground;
+pub use answers::{AluAnswer, Class, Effect, Facts, Fields, Overflow};
 pub use limits::{BANK, MOST_LIST, MOST_READ, MOST_ROUTINES, SHEET};
 pub use limits::{FASTEST_CLOCK, MOST_CYCLES, MOST_STEPS};
-pub use machine::{Flags, Lent, Report, RunRefusal, State, Stop, TimeRefusal};
+pub use machine::{Flags, Lent, Report, State, Stop};
+pub use refusal::Refusal;

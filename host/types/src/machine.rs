@@ -1,6 +1,7 @@
 //! The words of a run: what it is lent, where it starts, what it reports.
 
 use crate::Overflow;
+use std::fmt::{self, Display, Formatter};
 
 /// What a run is lent: the four banks, keys to read and a roll to write.
 #[derive(Debug)]
@@ -81,6 +82,17 @@ pub enum Stop {
     Full,
 }
 
+impl Display for Stop {
+    fn fmt(&self, out: &mut Formatter<'_>) -> fmt::Result {
+        out.pad(match self {
+            Stop::Halted => "halted",
+            Stop::Spent => "spent",
+            Stop::Unsettled => "unsettled",
+            Stop::Full => "full",
+        })
+    }
+}
+
 /// What a run reports.
 #[derive(Clone, Copy, Debug, PartialEq, Eq)]
 pub struct Report {
@@ -96,43 +108,14 @@ pub struct Report {
     pub state: State,
 }
 
-/// Why a run is refused.
-#[derive(Clone, Copy, Debug, PartialEq, Eq)]
-pub enum RunRefusal {
-    /// A bank isn't 256 bytes.
-    Bank,
-    /// The key position is past the end of the keys.
-    Position,
-    /// The budget is over 1,000,000.
-    Budget,
-}
+#[cfg(test)]
+mod tests {
+    use super::*;
 
-impl RunRefusal {
-    /// The ground's number.
-    pub fn number(self) -> u8 {
-        match self {
-            RunRefusal::Bank => 17,
-            RunRefusal::Position => 18,
-            RunRefusal::Budget => 19,
-        }
-    }
-}
-
-/// Why no running time is told.
-#[derive(Clone, Copy, Debug, PartialEq, Eq)]
-pub enum TimeRefusal {
-    /// The clock is 0 or above 1,000,000 Hz.
-    Clock,
-    /// The cycles are over 8,000,000.
-    Cycles,
-}
-
-impl TimeRefusal {
-    /// The ground's number.
-    pub fn number(self) -> u8 {
-        match self {
-            TimeRefusal::Clock => 20,
-            TimeRefusal::Cycles => 21,
-        }
+    #[test]
+    fn stops_are_shown_by_their_names() {
+        let stops = [Stop::Halted, Stop::Spent, Stop::Unsettled, Stop::Full];
+        assert_eq!(stops.map(|stop| stop.to_string()), ["halted", "spent", "unsettled", "full"]);
+        assert_eq!(format!("{:>7}|{:<5}", Stop::Spent, Stop::Full), "  spent|full ");
     }
 }

@@ -1,6 +1,6 @@
 //! What a run is lent, once nothing refuses it.
 
-use cesca_types::{Lent, RunRefusal, BANK, MOST_STEPS};
+use cesca_types::{Lent, Refusal, BANK, MOST_STEPS};
 
 /// What a run is lent, the banks with their length.
 pub struct Memory<'a> {
@@ -14,12 +14,12 @@ pub struct Memory<'a> {
 
 impl<'a> Memory<'a> {
     /// The memory of a run of at most `budget` steps from a key position, or why it is refused.
-    pub fn checked(lent: Lent<'a>, budget: u32, position: usize) -> Result<Self, RunRefusal> {
-        let memory = Memory::with_banks(lent).ok_or(RunRefusal::Bank)?;
+    pub fn checked(lent: Lent<'a>, budget: u32, position: usize) -> Result<Self, Refusal> {
+        let memory = Memory::with_banks(lent).ok_or_else(|| Refusal::of_call(17))?;
         if position > memory.keys.len() {
-            Err(RunRefusal::Position)
+            Err(Refusal::of_call(18))
         } else if budget > MOST_STEPS {
-            Err(RunRefusal::Budget)
+            Err(Refusal::of_call(19))
         } else {
             Ok(memory)
         }

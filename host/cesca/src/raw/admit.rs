@@ -1,7 +1,7 @@
 //! The export for admission, and its answer read into this crate's words.
 
 use super::unknown;
-use crate::Ground;
+use cesca_types::Refusal;
 
 /// How many places each ground can have, by its number: a routine for 7, an address for others, or
 /// none, which is told as 0.
@@ -21,9 +21,9 @@ extern "C" {
     ) -> u32;
 }
 
-/// Success for 0, else the ground of that answer.
+/// Success for 0, else the refusal of that answer.
 #[inline]
-pub fn outcome(answer: u32) -> Result<(), Ground> {
+pub fn outcome(answer: u32) -> Result<(), Refusal> {
     if answer == 0 {
         return Ok(());
     }
@@ -32,7 +32,7 @@ pub fn outcome(answer: u32) -> Result<(), Ground> {
     if u16::from(place) >= places {
         unknown("ground", answer);
     }
-    Err(Ground { number, place })
+    Err(Refusal::of_listing(number, place))
 }
 
 #[cfg(test)]
@@ -44,11 +44,12 @@ mod tests {
     fn answers_that_the_papers_give() {
         assert_eq!(outcome(0), Ok(()));
         for answer in [1, 2, 3, 4, 0xFF04, 5, 6, 7, 0x3F07, 8, 0xFF08, 16, 271, 272, 0xFF10] {
-            let ground = outcome(answer).expect_err("a refusal");
-            assert_eq!(ground.answer(), answer);
+            let refusal = outcome(answer).expect_err("a refusal");
+            assert_eq!(refusal.answer(), answer);
         }
-        assert_eq!(outcome(271), Err(Ground { number: 15, place: 1 }));
-        assert_eq!(outcome(0xFF0D).expect_err("a refusal").to_string(), "13 at 255");
+        assert_eq!(outcome(271), Err(Refusal::of_listing(15, 1)));
+        let last = outcome(0xFF0D).expect_err("a refusal").to_string();
+        assert_eq!(last, "13 at 255: it is address 255 and would go on to the next word");
     }
 
     #[test]

@@ -1,7 +1,7 @@
 //! The exports for runs and running times, and their answers read into this crate's words.
 
 use super::unknown;
-use crate::{Lent, Report, RunRefusal, State, Stop, TimeRefusal};
+use cesca_types::{Lent, Refusal, Report, State, Stop};
 use std::mem::MaybeUninit;
 
 /// A run's answer: 0 and the report, or a ground's number, zeros and the state lent.
@@ -77,7 +77,7 @@ impl RunNumbers {
     /// The report for 0, else the refusal of that number. What else a refusal comes with is proved of
     /// the library and isn't looked at, so that a run keeps no copy of the state lent.
     #[inline]
-    pub fn outcome(self) -> Result<Report, RunRefusal> {
+    pub fn outcome(self) -> Result<Report, Refusal> {
         match self.number {
             0 => Ok(self.into()),
             number => Err(refusal(number)),
@@ -87,15 +87,13 @@ impl RunNumbers {
 
 impl TimeNumbers {
     /// The tenths of a second for 0, else the refusal of that number.
-    pub fn outcome(self) -> Result<u32, TimeRefusal> {
-        let refusal = match self.number {
+    pub fn outcome(self) -> Result<u32, Refusal> {
+        match self.number {
             0 => return Ok(self.tenths),
-            20 => TimeRefusal::Clock,
-            21 => TimeRefusal::Cycles,
+            20 | 21 => assert_eq!(self.tenths, 0, "a refusal comes with no time"),
             _ => unknown("refusal of a time", self.number),
-        };
-        assert_eq!(self.tenths, 0, "a refusal comes with no time");
-        Err(refusal)
+        }
+        Err(Refusal::of_call(self.number))
     }
 }
 
@@ -109,11 +107,9 @@ impl From<RunNumbers> for Report {
 
 /// The refusal with this number.
 #[cold]
-fn refusal(number: u8) -> RunRefusal {
+fn refusal(number: u8) -> Refusal {
     match number {
-        17 => RunRefusal::Bank,
-        18 => RunRefusal::Position,
-        19 => RunRefusal::Budget,
+        17..=19 => Refusal::of_call(number),
         _ => unknown("refusal of a run", number),
     }
 }

@@ -2,7 +2,7 @@
 
 use super::Opened;
 use crate::{Routine, SheetWord};
-use cesca_types::{Class, Effect, Facts, Ground};
+use cesca_types::{Class, Effect, Facts, Refusal};
 
 /// The last address.
 const LAST: u8 = 255;
@@ -19,7 +19,7 @@ pub struct Place<'a> {
 
 impl Place<'_> {
     /// Success, or the first ground from 8 on.
-    pub fn check(&self) -> Result<(), Ground> {
+    pub fn check(&self) -> Result<(), Refusal> {
         let Facts { class, tests, .. } = self.facts;
         let (routine, depth) = (self.word.routine(), self.word.depth());
         let rules = [
@@ -34,7 +34,7 @@ impl Place<'_> {
             (16, self.successors().any(|at| !self.fits(self.listing.word(at)))),
         ];
         let broken = rules.into_iter().find(|(_, broken)| *broken);
-        broken.map_or(Ok(()), |(number, _)| Err(Ground { number, place: self.at }))
+        broken.map_or(Ok(()), |(number, _)| Err(Refusal::of_listing(number, self.at)))
     }
 
     /// Whether the next word is a successor.

@@ -116,13 +116,13 @@ fn free_bits_are_read_past() {
 #[test]
 fn bad_numbers_are_refused_registers_first() {
     let bad = |form, d, a, f, b| Instruction { d, a, f, b, ..plain(form) }.encode();
-    assert_eq!(bad(Form::Alu, 4, 0, 0, 0), Err(Refusal::Register));
-    assert_eq!(bad(Form::Alu, 0, 255, 0, 0), Err(Refusal::Register));
-    assert_eq!(bad(Form::Alu, 0, 0, 7, 4), Err(Refusal::Register)); // not R0, R0 hides Rb
-    assert_eq!(bad(Form::Alu, 0, 0, 16, 4), Err(Refusal::Register));
-    assert_eq!(bad(Form::Alu, 3, 3, 16, 3), Err(Refusal::Function));
-    assert_eq!(bad(Form::AluNone, 0, 0, 255, 0), Err(Refusal::Function));
-    assert_eq!(bad(Form::StoreAt, 0, 0, 0, 4), Err(Refusal::Register));
+    assert_eq!(bad(Form::Alu, 4, 0, 0, 0), Err(Refusal::of_call(22)));
+    assert_eq!(bad(Form::Alu, 0, 255, 0, 0), Err(Refusal::of_call(22)));
+    assert_eq!(bad(Form::Alu, 0, 0, 7, 4), Err(Refusal::of_call(22))); // not R0, R0 hides Rb
+    assert_eq!(bad(Form::Alu, 0, 0, 16, 4), Err(Refusal::of_call(22)));
+    assert_eq!(bad(Form::Alu, 3, 3, 16, 3), Err(Refusal::of_call(23)));
+    assert_eq!(bad(Form::AluNone, 0, 0, 255, 0), Err(Refusal::of_call(23)));
+    assert_eq!(bad(Form::StoreAt, 0, 0, 0, 4), Err(Refusal::of_call(22)));
 }
 
 #[test]
@@ -146,7 +146,7 @@ fn put_changes_one_place_or_nothing() {
 
     let bad = Instruction { a: 4, ..push };
     let short = &mut arguments[1..];
-    assert_eq!(bad.put(&mut opcodes, short, 9), Err(Refusal::Bank));
-    assert_eq!(bad.put(&mut opcodes, &mut arguments, 9), Err(Refusal::Register));
+    assert_eq!(bad.put(&mut opcodes, short, 9), Err(Refusal::of_call(1)));
+    assert_eq!(bad.put(&mut opcodes, &mut arguments, 9), Err(Refusal::of_call(22)));
     assert_eq!((opcodes, arguments), (wanted_opcodes, wanted_arguments));
 }

@@ -84,7 +84,10 @@ mod tests {
     #[test]
     fn the_names_tell_the_answers() {
         for (name, listing) in listings() {
-            let found = listing.admit().map_err(|ground| format!("refused {ground}"));
+            let found = listing.admit().map_err(|refusal| {
+                let place = refusal.place().expect("a place");
+                format!("refused {} at {place}", refusal.number())
+            });
             let refused = name.starts_with("refused");
             let wanted = if refused { Err(name.to_string()) } else { Ok(()) };
             assert_eq!(found, wanted);

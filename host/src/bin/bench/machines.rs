@@ -2,7 +2,7 @@
 
 use crate::timing::{medians, timed};
 use baselines::{plain, predecoded};
-use cesca::{run, Lent, Report, RunRefusal, State, BANK};
+use cesca::{run, Lent, Refusal, Report, State, BANK};
 use reference::Listing;
 use std::hint::black_box;
 
@@ -10,9 +10,9 @@ use std::hint::black_box;
 const ROLL: usize = 100_000;
 
 /// A machine: what a run reports, or why it is refused.
-pub trait Machine: Fn(Lent<'_>, u32, State) -> Result<Report, RunRefusal> {}
+pub trait Machine: Fn(Lent<'_>, u32, State) -> Result<Report, Refusal> {}
 
-impl<M: Fn(Lent<'_>, u32, State) -> Result<Report, RunRefusal>> Machine for M {}
+impl<M: Fn(Lent<'_>, u32, State) -> Result<Report, Refusal>> Machine for M {}
 
 /// A machine with a program and the buffers of its runs, never cleared between them.
 pub struct Bench<'a, M> {

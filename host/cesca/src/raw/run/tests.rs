@@ -2,7 +2,7 @@
 //! refusal comes with.
 
 use super::*;
-use crate::{Flags, Overflow};
+use cesca_types::{Flags, Overflow};
 
 /// The library's answer on a bank of this word, with a roll of no words and no keys.
 fn run(word: [u8; 2], budget: u32, start: MaybeUninit<State>) -> RunNumbers {
