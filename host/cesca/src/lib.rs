@@ -1,14 +1,61 @@
-//! CESCA's admission desk and machine for Rust programs: a safe function for each one that the
-//! proved library exports.
+//! CESCA's admission desk and machine for Rust programs, decided by the proved library.
+//!
+//! A loader reads a [`Listing`], has it [admitted](Listing::admit) and runs it on a [`Board`]:
+//!
+//! ```no_run
+//! use cesca::{Listing, Refusal, MOST_STEPS};
+//!
+//! fn main() -> Result<(), Box<dyn std::error::Error>> {
+//!     let admitted = Listing::from_bytes(&std::fs::read("listing.bin")?)?.admit()?;
+//!     println!("needs {} bytes of stack", admitted.need());
+//!     let mut board = admitted.board();
+//!     let report = board.run(&[1, 2, 3], MOST_STEPS)?;
+//!     println!("{} after {} steps, OUT {}", report.stop, report.steps, report.state.out);
+//!     println!("LCD {:?}", board.roll());
+//!     Ok(())
+//! }
+//! ```
+//!
+//! A [`Refusal`] has a number, a place and words for both. Listing A of the scope paper is
+//! admitted, and it isn't with a need of 1 for routine 0:
 //!
 //! ```
+//! # fn main() -> Result<(), Box<dyn std::error::Error>> {
+//! use cesca::{Listing, Stop};
+//!
+//! let (mut opcodes, mut arguments, mut sheet) = ([0; 256], [0; 256], [0; 512]);
+//! opcodes[..8].copy_from_slice(&[0x30, 0xA8, 0xF0, 0xF8, 0x5E, 0x10, 0x88, 0xAC]);
+//! arguments[..8].copy_from_slice(&[0x05, 0x04, 0x00, 0x00, 0x00, 0x01, 0x00, 0x00]);
+//! let words: [u16; 8] = [0x8000, 0x8000, 0x8000, 0x8000, 0x8100, 0x8101, 0xC101, 0xC100];
+//! for (bytes, word) in sheet.chunks_mut(2).zip(words) {
+//!     bytes.copy_from_slice(&word.to_le_bytes());
+//! }
+//!
+//! let admitted = Listing::from_parts(opcodes, arguments, sheet, &[0, 2, 4, 1])?.admit()?;
+//! assert_eq!(admitted.need(), 2);
+//! let report = admitted.board().run(&[], 1_000)?;
+//! assert_eq!((report.stop, report.steps, report.state.out), (Stop::Halted, 8, 6));
+//!
+//! let refusal = Listing::from_parts(opcodes, arguments, sheet, &[0, 1, 4, 1])?.admit().unwrap_err();
+//! assert_eq!((refusal.number(), refusal.place()), (15, Some(1)));
+//! let words = "15 at 1: the call needs 2 bytes where routine 0 has 1 left";
+//! assert_eq!(refusal.to_string(), words);
+//! # Ok(())
+//! # }
+//! ```
+//!
+//! Who keeps buffers of one's own calls [`admit`] and [`run`] on them, and [`decode`], [`encode`]
+//! and [`put`] on single instructions:
+//!
+//! ```
+//! use cesca::{Lent, State, Stop};
+//!
 //! let mov = cesca::decode([0x30, 0x05]); // mov R0, 5
 //! assert_eq!((mov.form, mov.d, mov.imm), (6, 0, 5));
 //! assert_eq!(cesca::encode(mov), Ok([0x30, 0x05]));
 //!
-//! use cesca::{Lent, State, Stop};
 //! let (mut opcodes, mut arguments) = ([0xF8; 256], [0; 256]); // hlt
-//! (opcodes[0], arguments[0]) = (0x30, 0x05);
+//! cesca::put(mov, &mut opcodes, &mut arguments, 0).unwrap();
 //! let (mut ram, mut stack) = ([0; 256], [0; 256]);
 //! let lent = Lent {
 //!     opcodes: &opcodes,
@@ -23,133 +70,23 @@
 //! assert_eq!(report.state.regs, [5, 0, 0, 0]);
 //! assert_eq!(cesca::running_time(report.cycles, 100), Ok(1)); // tenths of a second
 //! ```
-//!
-//! Listing A of the scope paper is admitted, and it isn't with a need of 1 for routine 0:
-//!
-//! ```
-//! let (mut opcodes, mut arguments) = ([0; 256], [0; 256]);
-//! opcodes[..8].copy_from_slice(&[0x30, 0xA8, 0xF0, 0xF8, 0x5E, 0x10, 0x88, 0xAC]);
-//! arguments[..8].copy_from_slice(&[0x05, 0x04, 0x00, 0x00, 0x00, 0x01, 0x00, 0x00]);
-//! let words: [u16; 8] = [0x8000, 0x8000, 0x8000, 0x8000, 0x8100, 0x8101, 0xC101, 0xC100];
-//! let mut sheet = [0; 512];
-//! for (bytes, word) in sheet.chunks_mut(2).zip(words) {
-//!     bytes.copy_from_slice(&word.to_le_bytes());
-//! }
-//! let admit = |list: [u8; 4]| cesca::admit(&opcodes, &arguments, &sheet, &list);
-//! assert_eq!(admit([0x00, 0x02, 0x04, 0x01]), Ok(()));
-//! let refusal = admit([0x00, 0x01, 0x04, 0x01]).unwrap_err();
-//! assert_eq!((refusal.number(), refusal.place()), (15, Some(1)));
-//! ```
 
 #![warn(missing_docs)]
 
+mod admitted;
+mod board;
+mod calls;
+mod explain;
+mod listing;
 mod raw;
+#[cfg(test)]
+mod samples;
+mod sheet;
 
+pub use admitted::Admitted;
+pub use board::Board;
+pub use calls::{admit, alu, decode, encode, facts, put, run, running_time};
 #[doc(inline)]
 pub use cesca_types::*;
-use std::mem::MaybeUninit;
-
-/// The form and fields of a two-byte word, opcode first; free bits are ignored.
-///
-/// Fields that the form's machine code doesn't have are 0.
-pub fn decode(word: [u8; 2]) -> Fields {
-    let [opcode, argument] = word;
-    // SAFETY: plain numbers in and out; the library asks nothing of them.
-    unsafe { raw::cesca_decode(opcode, argument) }
-}
-
-/// The two-byte word of these fields, opcode first and free bits 0, or why there is none.
-///
-/// Fields that the form's machine code doesn't have are ignored.
-pub fn encode(fields: Fields) -> Result<[u8; 2], Refusal> {
-    // SAFETY: plain numbers in and out; the library asks nothing of them.
-    let answer = unsafe { raw::cesca_encode(fields) };
-    let word = [answer.opcode, answer.argument];
-    raw::outcome(answer.number).map(|()| word).inspect_err(|_| {
-        assert_eq!(word, [0, 0], "a refusal comes with zero bytes: {fields:?}");
-    })
-}
-
-/// Whether the word of these fields now stands at address `at` of the two banks.
-///
-/// A refusal leaves both banks as they were: first banks that aren't of 256 bytes, then
-/// whatever [`encode`] refuses.
-pub fn put(
-    fields: Fields,
-    opcodes: &mut [u8],
-    arguments: &mut [u8],
-    at: u8,
-) -> Result<(), Refusal> {
-    // SAFETY: both pointers come with the length of the slice behind them, and the slices are
-    // borrowed for writing during the call, so they don't overlap.
-    let number = unsafe {
-        raw::cesca_put(
-            fields,
-            opcodes.as_mut_ptr(),
-            opcodes.len(),
-            arguments.as_mut_ptr(),
-            arguments.len(),
-            at,
-        )
-    };
-    raw::outcome(number)
-}
-
-/// The result and flags of an ALU function on `x` (Ra), `y` (Rb) and the carry flag before.
-///
-/// A function number over 15 is taken as 15.
-pub fn alu(function: u8, x: u8, y: u8, c: bool) -> AluAnswer {
-    // SAFETY: plain numbers in and out; the library asks nothing of them.
-    unsafe { raw::cesca_alu(function, x, y, c) }.into()
-}
-
-/// What a checker needs to know of an instruction: cycles, way on, and its effect on V.
-///
-/// A function number over 15 is taken as 15.
-pub fn facts(fields: Fields) -> Facts {
-    // SAFETY: plain numbers in and out; the library asks nothing of them.
-    unsafe { raw::cesca_facts(fields) }.into()
-}
-
-/// Success if the listing is admitted, else the first ground that refuses it.
-///
-/// The slices may have any length; nothing is written to them.
-// Inlined, so that the slices go to the library without being stored and loaded again.
-#[inline]
-pub fn admit(opcodes: &[u8], arguments: &[u8], sheet: &[u8], list: &[u8]) -> Result<(), Refusal> {
-    // SAFETY: each pointer comes with the length of the slice behind it, which is only read.
-    let answer = unsafe {
-        raw::admit::cesca_admit(
-            opcodes.as_ptr(),
-            opcodes.len(),
-            arguments.as_ptr(),
-            arguments.len(),
-            sheet.as_ptr(),
-            sheet.len(),
-            list.as_ptr(),
-            list.len(),
-        )
-    };
-    raw::admit::outcome(answer)
-}
-
-/// What a run of at most `budget` steps from `start` reports, or why there is none.
-///
-/// The roll is written from its beginning, and what lies past the words written is kept. A
-/// refusal leaves everything lent as it was: first a bank that isn't of 256 bytes, then a key
-/// position past the end of the keys, then a budget over [`MOST_STEPS`].
-// Inlined, so that what is lent goes to the library without being stored and loaded again.
-#[inline]
-pub fn run(lent: Lent<'_>, budget: u32, start: State) -> Result<Report, Refusal> {
-    // SAFETY: the state is a whole one.
-    unsafe { raw::run::call(lent, budget, MaybeUninit::new(start)) }.outcome()
-}
-
-/// The time of so many cycles at a clock in Hz, in tenths of a second, or why none is told.
-///
-/// It is rounded to the nearest tenth, a half going up. First a clock of 0 or over
-/// [`FASTEST_CLOCK`] is refused, then cycles over [`MOST_CYCLES`].
-pub fn running_time(cycles: u32, clock: u32) -> Result<u32, Refusal> {
-    // SAFETY: plain numbers in and out; the library asks nothing of them.
-    unsafe { raw::run::cesca_running_time(cycles, clock) }.outcome()
-}
+pub use listing::Listing;
+pub use sheet::{Routine, SheetWord};
