@@ -93,7 +93,9 @@ pub fn admit(opcodes: &[u8], arguments: &[u8], sheet: &[u8], list: &[u8]) -> Res
 ///
 /// The roll is written from its beginning, and what lies past the words written is kept. A
 /// refusal leaves everything lent as it was: first a bank that isn't of 256 bytes, then a key
-/// position past the end of the keys, then a budget over [`MOST_STEPS`](crate::MOST_STEPS).
+/// position past the end of the keys, then a budget over [`MOST_STEPS`].
+///
+/// [`MOST_STEPS`]: crate::MOST_STEPS
 // Inlined, so that what is lent goes to the library without being stored and loaded again.
 #[inline]
 pub fn run(lent: Lent<'_>, budget: u32, start: State) -> Result<Report, Refusal> {
@@ -104,7 +106,10 @@ pub fn run(lent: Lent<'_>, budget: u32, start: State) -> Result<Report, Refusal>
 /// The time of so many cycles at a clock in Hz, in tenths of a second, or why none is told.
 ///
 /// It is rounded to the nearest tenth, a half going up. First a clock of 0 or over
-/// [`FASTEST_CLOCK`](crate::FASTEST_CLOCK) is refused, then cycles over [`MOST_CYCLES`](crate::MOST_CYCLES).
+/// [`FASTEST_CLOCK`] is refused, then cycles over [`MOST_CYCLES`].
+///
+/// [`FASTEST_CLOCK`]: crate::FASTEST_CLOCK
+/// [`MOST_CYCLES`]: crate::MOST_CYCLES
 pub fn running_time(cycles: u32, clock: u32) -> Result<u32, Refusal> {
     // SAFETY: plain numbers in and out; the library asks nothing of them.
     unsafe { raw::run::cesca_running_time(cycles, clock) }.outcome()

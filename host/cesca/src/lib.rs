@@ -3,7 +3,7 @@
 //! A loader reads a [`Listing`], has it [admitted](Listing::admit) and runs it on a [`Board`]:
 //!
 //! ```no_run
-//! use cesca::{Listing, Refusal, MOST_STEPS};
+//! use cesca::{Listing, MOST_STEPS};
 //!
 //! fn main() -> Result<(), Box<dyn std::error::Error>> {
 //!     let admitted = Listing::from_bytes(&std::fs::read("listing.bin")?)?.admit()?;
@@ -31,12 +31,13 @@
 //!     bytes.copy_from_slice(&word.to_le_bytes());
 //! }
 //!
-//! let admitted = Listing::from_parts(opcodes, arguments, sheet, &[0, 2, 4, 1])?.admit()?;
+//! let listing = |list: [u8; 4]| Listing::from_parts(opcodes, arguments, sheet, &list);
+//! let admitted = listing([0, 2, 4, 1])?.admit()?;
 //! assert_eq!(admitted.need(), 2);
 //! let report = admitted.board().run(&[], 1_000)?;
 //! assert_eq!((report.stop, report.steps, report.state.out), (Stop::Halted, 8, 6));
 //!
-//! let refusal = Listing::from_parts(opcodes, arguments, sheet, &[0, 1, 4, 1])?.admit().unwrap_err();
+//! let refusal = listing([0, 1, 4, 1])?.admit().unwrap_err();
 //! assert_eq!((refusal.number(), refusal.place()), (15, Some(1)));
 //! let words = "15 at 1: the call needs 2 bytes where routine 0 has 1 left";
 //! assert_eq!(refusal.to_string(), words);

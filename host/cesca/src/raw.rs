@@ -120,3 +120,19 @@ fn class(number: u8) -> Class {
 fn unknown(kind: &str, number: impl Display) -> ! {
     panic!("the library answered {number}, which is no {kind}")
 }
+
+#[cfg(test)]
+mod tests {
+    use super::*;
+    use std::panic::catch_unwind;
+
+    #[test]
+    fn refusals_of_other_numbers_break_the_contract() {
+        assert_eq!(outcome(0), Ok(()));
+        for number in 1..=255 {
+            let found = catch_unwind(|| outcome(number));
+            let wanted = [1, 22, 23].contains(&number).then(|| Err(Refusal::of_call(number)));
+            assert_eq!(found.ok(), wanted, "{number}");
+        }
+    }
+}

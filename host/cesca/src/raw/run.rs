@@ -74,8 +74,8 @@ pub unsafe fn call(lent: Lent<'_>, budget: u32, start: MaybeUninit<State>) -> Ru
 }
 
 impl RunNumbers {
-    /// The report for 0, else the refusal of that number. What else a refusal comes with is proved of
-    /// the library and isn't looked at, so that a run keeps no copy of the state lent.
+    /// The report for 0, else the refusal of that number. What else a refusal comes with is proved
+    /// of the library and isn't looked at, so that a run keeps no copy of the state lent.
     #[inline]
     pub fn outcome(self) -> Result<Report, Refusal> {
         match self.number {

@@ -3,6 +3,7 @@
 
 use super::*;
 use cesca_types::{Flags, Overflow};
+use std::panic::catch_unwind;
 
 /// The library's answer on a bank of this word, with a roll of no words and no keys.
 fn run(word: [u8; 2], budget: u32, start: MaybeUninit<State>) -> RunNumbers {
@@ -59,4 +60,18 @@ fn a_refusal_comes_with_zeros_and_the_state_lent() {
         let counts = (refused.stop, refused.steps, refused.cycles, refused.words);
         assert_eq!((refused.number, counts, refused.state), (number, (0, 0, 0, 0), start));
     }
+}
+
+#[test]
+fn refusals_of_other_numbers_break_the_contract() {
+    for number in 1..=255 {
+        let run = catch_unwind(|| refusal(number)).ok();
+        let known = (17..=19).contains(&number);
+        assert_eq!(run, known.then(|| Refusal::of_call(number)), "{number}");
+        let time = catch_unwind(|| TimeNumbers { number, tenths: 0 }.outcome()).ok();
+        let known = (20..=21).contains(&number);
+        assert_eq!(time, known.then(|| Err(Refusal::of_call(number))), "{number}");
+    }
+    assert!(catch_unwind(|| TimeNumbers { number: 20, tenths: 1 }.outcome()).is_err());
+    assert_eq!(TimeNumbers { number: 0, tenths: 7 }.outcome(), Ok(7));
 }
