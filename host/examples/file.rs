@@ -1,7 +1,7 @@
 //! Makes the file of a listing that is written as text, as in `listings/README.md`:
 //! `cargo run --example file -- mine.txt mine.bin`.
 
-use cesca_host::reference::Listing;
+use reference::Listing;
 use std::env;
 use std::fs;
 use std::io;

@@ -1,7 +1,7 @@
 //! The ALU on every function, pair of operands and carry, the library beside the reference.
 
-use cesca_host::reference::{self, Function};
-use cesca_host::{alu, AluAnswer, Overflow};
+use cesca::{alu, AluAnswer, Overflow};
+use reference::Function;
 
 /// Every byte with every byte and both carries.
 fn operands() -> impl Iterator<Item = (u8, u8, bool)> {

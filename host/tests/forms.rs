@@ -1,7 +1,7 @@
 //! All forms with good and bad fields, the library beside the reference.
 
-use cesca_host::reference::{Form, Instruction};
-use cesca_host::{decode, encode, facts, Class, Effect, Facts, Fields, Refusal};
+use cesca::{decode, encode, facts, Class, Effect, Facts, Fields};
+use reference::{Form, Instruction};
 
 /// The letters of Rd, Ra, function, Rb and immediate or address in a machine code.
 const LETTERS: [&str; 5] = ["D", "A", "F", "B", "I@"];
@@ -98,7 +98,7 @@ fn two_fields_of_the_form_swept_beside_edges() {
 fn bad_registers_are_refused_before_a_bad_function() {
     let bad = |form: Form, d, a, f, b| {
         let fields = Fields { form: form.row(), d, a, f, b, imm: 0 };
-        encode(fields).map_err(Refusal::number)
+        encode(fields).map_err(|refusal| refusal.number())
     };
     for form in [Form::Alu, Form::AluNone] {
         assert_eq!(bad(form, 0, 0, 16, 0), Err(23), "{form:?}");

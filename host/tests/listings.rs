@@ -5,15 +5,17 @@ mod described;
 #[path = "common/stored.rs"]
 mod stored;
 
-use cesca_host::reference::{self, Listing};
-use cesca_host::{admit, Ground};
+use cesca::admit;
 use described::{described, file, Described};
+use reference::Listing;
 use stored::{names, path, read, text};
 
 /// The answer that a printed text stands for.
-fn answer(printed: &str) -> Result<(), String> {
-    let refused = printed.strip_prefix("refused ");
-    refused.map_or(Ok(()), |ground| Err(ground.trim_end().to_string()))
+fn answer(printed: &str) -> Result<(), u32> {
+    let Some(refused) = printed.strip_prefix("refused ") else { return Ok(()) };
+    let (number, place) = refused.trim_end().split_once(" at ").expect("a number and a place");
+    let [number, place] = [number, place].map(|digits| digits.parse::<u32>().expect("digits"));
+    Err(number + 256 * place)
 }
 
 #[test]
@@ -63,7 +65,7 @@ fn the_library_answers_what_is_described() {
     for Described { name, listing, printed } in described() {
         let Listing { opcodes, arguments, sheet, list } = &listing;
         let found = admit(opcodes, arguments, sheet, list);
-        assert_eq!(found.map_err(|ground: Ground| ground.to_string()), answer(&printed), "{name}");
+        assert_eq!(found.map_err(|refusal| refusal.answer()), answer(&printed), "{name}");
     }
 }
 

@@ -1,7 +1,7 @@
 //! Instructions put into banks: one place changed, or nothing at all.
 
-use cesca_host::reference::{Form, Instruction, BANK};
-use cesca_host::{put, Fields, Refusal};
+use cesca::{put, Fields, Refusal, BANK};
+use reference::{Form, Instruction};
 
 /// The bytes kept on either side of a lent bank.
 const GUARD: usize = 16;
@@ -109,7 +109,7 @@ fn banks_of_a_wrong_length_are_refused() {
     let pairs = lengths.into_iter().flat_map(|left| lengths.map(|right| (left, right)));
     for lengths in pairs.filter(|lengths| *lengths != (BANK, BANK)) {
         for at in [0, 1, 128, 254, 255] {
-            check_refused(SUB, lengths, at, Refusal::Bank);
+            check_refused(SUB, lengths, at, Refusal::of_call(1));
         }
     }
 }
@@ -118,12 +118,12 @@ fn banks_of_a_wrong_length_are_refused() {
 fn bad_numbers_are_refused() {
     for at in 0..=255 {
         for bad in [4, 5, 128, 255] {
-            let register = |fields| check_refused(fields, (BANK, BANK), at, Refusal::Register);
+            let register = |fields| check_refused(fields, (BANK, BANK), at, Refusal::of_call(22));
             register(Fields { d: bad, ..SUB });
             register(Fields { a: bad, ..SUB });
             register(Fields { b: bad, ..SUB });
             let function = Fields { f: bad.max(16), ..SUB };
-            check_refused(function, (BANK, BANK), at, Refusal::Function);
+            check_refused(function, (BANK, BANK), at, Refusal::of_call(23));
         }
     }
 }
@@ -136,10 +136,10 @@ fn the_lowest_number_comes_first() {
     for at in [0, 77, 255] {
         for lengths in [(0, 0), (255, 256), (256, 255), (256, 257), (257, 256), (0, 512)] {
             for fields in [function, register, both] {
-                check_refused(fields, lengths, at, Refusal::Bank);
+                check_refused(fields, lengths, at, Refusal::of_call(1));
             }
         }
-        check_refused(both, (BANK, BANK), at, Refusal::Register);
+        check_refused(both, (BANK, BANK), at, Refusal::of_call(22));
     }
 }
 

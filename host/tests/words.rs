@@ -1,7 +1,7 @@
 //! All 65,536 two-byte words, the library beside the reference.
 
-use cesca_host::reference::Instruction;
-use cesca_host::{decode, encode, facts, Fields};
+use cesca::{decode, encode, facts, Fields};
+use reference::Instruction;
 
 /// Every two-byte word, opcode first.
 fn words() -> impl Iterator<Item = [u8; 2]> {

@@ -1,8 +1,8 @@
 //! The instructions that a sheet allows at an address.
 
 use crate::random::Random;
-use cesca_host::reference::{Instruction, SheetWord};
-use cesca_host::{Class, Effect, Facts};
+use cesca::{Class, Effect, Facts};
+use reference::{Instruction, SheetWord};
 use std::sync::LazyLock;
 
 /// The class of each opcode, and whether it tests V.

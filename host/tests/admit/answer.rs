@@ -1,11 +1,11 @@
 //! The one answer of library and reference.
 
 use crate::memory::Guarded;
-use cesca_host::reference::Listing;
-use cesca_host::{admit, Ground};
+use cesca::{admit, Refusal};
+use reference::Listing;
 
 /// The answer of library and reference, which write nothing to what they are lent.
-pub fn answer(listing: &Listing) -> Result<(), Ground> {
+pub fn answer(listing: &Listing) -> Result<(), Refusal> {
     let Listing { opcodes, arguments, sheet, list } = listing;
     let before = [opcodes, arguments, sheet, list].map(|part| Guarded::new(part.iter().copied()));
     let lent = before.clone();

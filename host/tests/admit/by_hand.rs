@@ -5,12 +5,12 @@ mod parts;
 mod successors;
 
 use crate::answer::answer;
-use cesca_host::reference::Listing;
-use cesca_host::Ground;
+use cesca::Refusal;
+use reference::Listing;
 
 /// Checks that library and reference refuse a listing on this ground.
 fn check(listing: &Listing, number: u8, place: u8) {
-    assert_eq!(answer(listing), Err(Ground { number, place }));
+    assert_eq!(answer(listing), Err(Refusal::of_listing(number, place)));
 }
 
 /// Checks that library and reference admit a listing.
@@ -36,9 +36,9 @@ fn listing_a() {
 #[test]
 fn the_marked_answers() {
     let m9 = Listing::a().with_list(&[0, 1, 4, 1]);
-    assert_eq!(answer(&m9).map_err(Ground::answer), Err(271));
+    assert_eq!(answer(&m9).map_err(|refusal| refusal.answer()), Err(271));
     let m10 = a_with_sheet(&[(2, 0xC000)]);
-    assert_eq!(answer(&m10).map_err(Ground::answer), Err(272));
+    assert_eq!(answer(&m10).map_err(|refusal| refusal.answer()), Err(272));
 }
 
 #[test]

@@ -5,7 +5,8 @@ use crate::counts::Counts;
 use crate::damage::Damage;
 use crate::filled::admitted;
 use crate::random::{each_case, Random};
-use cesca_host::reference::{Listing, BANK, SHEET};
+use cesca::{BANK, SHEET};
+use reference::Listing;
 
 /// The admitted listings drawn.
 const CASES: u64 = 30_000;
@@ -43,15 +44,15 @@ fn the_library_answers_as_the_reference() {
         let listing = admitted(random);
         let found = answer(&listing);
         assert_eq!(found, Ok(()), "{listing:?}");
-        counts.plain(found);
+        counts.plain(&found);
         for _ in 0..4 {
             let damage = random.pick(&Damage::ALL);
             let mut damaged = listing.clone();
             damage.apply(&mut damaged, random);
-            counts.damaged(damage, answer(&damaged));
+            counts.damaged(damage, &answer(&damaged));
         }
-        counts.spoiled(answer(&spoiled(random, &listing)));
-        counts.plain(answer(&any_bytes(random)));
+        counts.spoiled(&answer(&spoiled(random, &listing)));
+        counts.plain(&answer(&any_bytes(random)));
     });
     counts.check();
 }

@@ -1,7 +1,7 @@
 //! What the answers came to, so that nothing goes untested.
 
 use crate::damage::Damage;
-use cesca_host::Ground;
+use cesca::Refusal;
 
 /// How often a kind of answer must be met.
 const ENOUGH: u64 = 100;
@@ -28,19 +28,19 @@ impl Counts {
     }
 
     /// Counts an answer on a listing with this single damage.
-    pub fn damaged(&mut self, damage: Damage, answer: Result<(), Ground>) {
+    pub fn damaged(&mut self, damage: Damage, answer: &Result<(), Refusal>) {
         self.damaged[damage as usize][number(answer)] += 1;
         self.plain(answer);
     }
 
     /// Counts an answer on a listing with many things wrong.
-    pub fn spoiled(&mut self, answer: Result<(), Ground>) {
+    pub fn spoiled(&mut self, answer: &Result<(), Refusal>) {
         self.spoiled[number(answer)] += 1;
         self.plain(answer);
     }
 
     /// Counts an answer on any other listing.
-    pub fn plain(&mut self, answer: Result<(), Ground>) {
+    pub fn plain(&mut self, answer: &Result<(), Refusal>) {
         self.all[number(answer)] += 1;
     }
 
@@ -63,6 +63,6 @@ impl Counts {
 }
 
 /// The number of an answer.
-fn number(answer: Result<(), Ground>) -> usize {
-    answer.map_or_else(|ground| usize::from(ground.number), |()| 0)
+fn number(answer: &Result<(), Refusal>) -> usize {
+    answer.as_ref().map_or_else(|refusal| usize::from(refusal.number()), |()| 0)
 }

@@ -1,7 +1,7 @@
 //! Listings with something changed.
 
 use crate::random::Random;
-use cesca_host::reference::{Listing, SheetWord};
+use reference::{Listing, SheetWord};
 
 /// What is changed.
 #[derive(Clone, Copy, Debug, PartialEq, Eq)]

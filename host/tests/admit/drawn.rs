@@ -1,7 +1,8 @@
 //! Random sheets and lists that no instruction stands against yet.
 
 use crate::random::Random;
-use cesca_host::reference::{Routine, SheetWord, BANK, MOST_ROUTINES};
+use cesca::{BANK, MOST_ROUTINES};
+use reference::{Routine, SheetWord};
 use std::ops::Range;
 
 /// A sheet and a list that pass the grounds up to 8.

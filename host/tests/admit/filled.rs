@@ -3,8 +3,8 @@
 use crate::allowed::{classes, opcode, plain};
 use crate::drawn::Drawn;
 use crate::random::Random;
-use cesca_host::reference::{Listing, SheetWord};
-use cesca_host::Class;
+use cesca::Class;
+use reference::{Listing, SheetWord};
 
 /// The classes that may stand anywhere.
 const ENDS: [Class; 4] = [Class::Jump, Class::Jump, Class::Jump, Class::Halt];

@@ -9,8 +9,8 @@ use crate::player::Player;
 use crate::random::{each_case, Random};
 use crate::row::Row;
 use crate::script::{banks, start, Call};
-use cesca_host::reference::Listing;
-use cesca_host::Stop;
+use cesca::Stop;
+use reference::Listing;
 
 /// The lists made.
 const LISTS: u64 = 10_000;
@@ -42,18 +42,18 @@ fn play(random: &mut Random, listing: &Listing, outcomes: &mut Outcomes) {
         let mut watched = players[0].clone();
         let [found, other] = players.each_mut().map(|player| player.call(&call));
         assert_eq!(found, other, "{call:?} with another stack");
-        if let Ok(report) = found {
+        if let Ok(report) = &found {
             assert_ne!(report.stop, Stop::Unsettled, "{call:?}");
             row.begin(call.restart.is_some());
             let steps = watched.watched(&call, |found| {
                 row.step(found);
                 outcomes.step(found.instruction, row.is_full());
             });
-            assert_eq!(steps, report, "{call:?} step by step");
+            assert_eq!(steps, *report, "{call:?} step by step");
             assert!(watched.memory == players[0].memory, "{call:?} step by step");
         }
         check_alike(players.each_ref(), &row, old.each_ref());
-        outcomes.answer(found);
+        outcomes.answer(&found);
     }
 }
 

@@ -7,6 +7,7 @@ mod compare;
 mod counts;
 mod damage;
 mod drawn;
+mod explained;
 mod filled;
 mod lists;
 #[path = "../common/memory.rs"]

@@ -1,7 +1,7 @@
 //! What the lists of runs came to, so that nothing goes untested.
 
-use cesca_host::reference::Instruction;
-use cesca_host::{Class, Report, RunRefusal};
+use cesca::{Class, Refusal, Report};
+use reference::Instruction;
 
 /// How often each thing was met.
 #[derive(Debug, Default)]
@@ -20,7 +20,7 @@ pub struct Outcomes {
 
 impl Outcomes {
     /// Counts an answer.
-    pub fn answer(&mut self, answer: Result<Report, RunRefusal>) {
+    pub fn answer(&mut self, answer: &Result<Report, Refusal>) {
         match answer {
             Ok(report) => self.stops[report.stop as usize] += 1,
             Err(refusal) => self.refusals[usize::from(refusal.number()) - 17] += 1,

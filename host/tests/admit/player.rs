@@ -3,8 +3,8 @@
 use crate::memory::{Guarded, Memory};
 use crate::row::Found;
 use crate::script::Call;
-use cesca_host::reference::Instruction;
-use cesca_host::{decode, run, Lent, Report, RunRefusal, State, Stop};
+use cesca::{decode, run, Lent, Refusal, Report, State, Stop};
+use reference::Instruction;
 
 /// A list under way: its banks and the state reached.
 #[derive(Clone)]
@@ -15,12 +15,12 @@ pub struct Player {
 
 impl Player {
     /// What a call reports, or why it is refused; a refused one leaves all as it was.
-    pub fn call(&mut self, call: &Call) -> Result<Report, RunRefusal> {
+    pub fn call(&mut self, call: &Call) -> Result<Report, Refusal> {
         let start = call.restart.unwrap_or(self.state);
         let mut lent = self.lent(call);
         let before = lent.clone();
         let answer = run(lent.lend(), call.budget, start);
-        match answer {
+        match &answer {
             Ok(report) => *self = Player { memory: lent, state: report.state },
             Err(_) => assert!(lent == before, "a refused call wrote: {call:?}"),
         }

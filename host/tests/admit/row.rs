@@ -1,7 +1,7 @@
 //! The row of entries that is kept beside a list of runs, and what is promised of each step.
 
-use cesca_host::reference::{Instruction, Listing, SheetWord, BANK};
-use cesca_host::{Class, State};
+use cesca::{Class, State, BANK};
+use reference::{Instruction, Listing, SheetWord};
 
 /// A byte on the stack.
 #[derive(Clone, Copy, Debug, PartialEq, Eq)]

@@ -2,8 +2,8 @@
 
 use crate::memory::{Bank, Guarded, Memory, BANKS};
 use crate::random::Random;
-use cesca_host::reference::{Listing, BANK};
-use cesca_host::{Flags, Overflow, State, MOST_STEPS};
+use cesca::{Flags, Overflow, State, BANK, MOST_STEPS};
+use reference::Listing;
 
 /// A call of a list.
 #[derive(Clone, Debug)]

@@ -1,7 +1,7 @@
 //! What the README of the stored listings tells of each file.
 
 use super::stored::{path, text};
-use cesca_host::reference::Listing;
+use reference::Listing;
 use std::path::PathBuf;
 
 /// What a section of the README tells of a file.

@@ -1,7 +1,6 @@
 //! Everything that a run is lent, each buffer inside guards.
 
-use cesca_host::reference::BANK;
-use cesca_host::Lent;
+use cesca::{Lent, BANK};
 use std::fmt::Display;
 
 /// The elements kept on either side of a lent buffer.

@@ -9,7 +9,6 @@ mod failing;
 mod stored;
 
 use cases::cases;
-use cesca_host::reference;
 use std::path::PathBuf;
 use stored::{names, path, read, text};
 

@@ -9,6 +9,7 @@ mod edits;
 mod finding;
 mod functions;
 mod imports;
+mod independence;
 mod numbers;
 mod promises;
 mod source;

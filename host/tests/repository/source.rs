@@ -31,8 +31,13 @@ pub fn crates() -> Vec<String> {
 
 /// The files with an ending in a part of a crate and below, in order; none if it has no such part.
 pub fn below(name: &str, part: &str, ending: &str) -> Vec<Source> {
+    files(&format!("crates/{name}/{part}"), ending)
+}
+
+/// The files with an ending in a directory and below, in order; none if there is no such directory.
+pub fn files(directory: &str, ending: &str) -> Vec<Source> {
     let mut found = Vec::new();
-    collect(&format!("crates/{name}/{part}"), ending, &mut found);
+    collect(directory, ending, &mut found);
     found
 }
 

@@ -2,7 +2,7 @@
 
 use crate::memory::Memory;
 use crate::MACHINES;
-use cesca_host::{Flags, Overflow, Report, State, Stop};
+use cesca::{Flags, Overflow, Report, State, Stop};
 use Overflow::{Clear, Unsettled};
 
 /// Checks that every machine reports this and leaves the memory like this.

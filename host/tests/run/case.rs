@@ -2,8 +2,8 @@
 
 use crate::memory::{Guarded, Memory};
 use crate::random::Random;
-use cesca_host::reference::{Form, BANK};
-use cesca_host::{Flags, Overflow, State};
+use cesca::{Flags, Overflow, State, BANK};
+use reference::Form;
 use std::sync::LazyLock;
 
 /// A call: what is lent, the budget and the state to start from.

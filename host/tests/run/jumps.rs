@@ -2,7 +2,7 @@
 
 use crate::by_hand::{check, report};
 use crate::memory::Memory;
-use cesca_host::{Flags, Overflow, State, Stop};
+use cesca::{Flags, Overflow, State, Stop};
 
 /// A condition on Z, C, V and S.
 type Condition = fn(bool, bool, bool, bool) -> bool;

@@ -3,7 +3,7 @@
 use crate::case::Case;
 use crate::memory::{Guarded, Memory};
 use crate::random::each_case;
-use cesca_host::{run, Report, State};
+use cesca::{run, Report, State};
 
 /// A word that no transfer makes.
 const BLANK: u16 = 999;

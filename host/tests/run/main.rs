@@ -17,14 +17,15 @@ mod tally;
 mod time;
 mod transfers;
 
-use cesca_host::{plain, predecoded, reference, Lent, Report, RunRefusal, State};
+use baselines::{plain, predecoded};
+use cesca::{Lent, Refusal, Report, State};
 
 /// A machine: what a run reports, or why it is refused.
-type Machine = fn(Lent<'_>, u32, State) -> Result<Report, RunRefusal>;
+type Machine = fn(Lent<'_>, u32, State) -> Result<Report, Refusal>;
 
 /// The machines by name.
 const MACHINES: [(&str, Machine); 4] = [
-    ("the library", cesca_host::run),
+    ("the library", cesca::run),
     ("the reference", reference::run),
     ("the plain machine", plain::run),
     ("the predecoded machine", predecoded::run),

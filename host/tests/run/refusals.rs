@@ -2,7 +2,7 @@
 
 use crate::memory::{Guarded, Memory, BANKS};
 use crate::MACHINES;
-use cesca_host::{RunRefusal, State};
+use cesca::{Refusal, State};
 
 /// A program that would write to ram, stack and roll, with two keys and a roll of one word.
 fn memory() -> Memory {
@@ -23,8 +23,8 @@ fn start(position: usize) -> State {
 fn check(memory: &Memory, budget: u32, start: State, number: u8) {
     for (name, machine) in MACHINES {
         let mut lent = memory.clone();
-        let found = machine(lent.lend(), budget, start).map_err(RunRefusal::number);
-        assert_eq!(found, Err(number), "{name}");
+        let found = machine(lent.lend(), budget, start);
+        assert_eq!(found, Err(Refusal::of_call(number)), "{name}");
         assert!(lent == *memory, "{name} wrote: {lent:?}");
     }
 }

@@ -5,7 +5,7 @@ use crate::memory::Memory;
 use crate::random::each_case;
 use crate::tally::Tally;
 use crate::Machine;
-use cesca_host::{plain, predecoded, reference};
+use baselines::{plain, predecoded};
 
 /// The calls made of each machine.
 const CASES: u64 = 250_000;
@@ -18,7 +18,7 @@ fn check(machine: Machine) {
         let mut wanted_memory = before.clone();
         let lent = wanted_memory.lend();
         let wanted = reference::run_watched(lent, budget, start, |step| tally.step(step));
-        tally.outcome(wanted);
+        tally.outcome(&wanted);
 
         let mut memory = before.clone();
         let found = machine(memory.lend(), budget, start);
@@ -45,7 +45,7 @@ fn differences(found: &Memory, wanted: &Memory) -> String {
 
 #[test]
 fn the_library_runs_as_the_reference() {
-    check(cesca_host::run);
+    check(cesca::run);
 }
 
 #[test]

@@ -2,7 +2,7 @@
 
 use crate::by_hand::{check, report};
 use crate::memory::{Guarded, Memory};
-use cesca_host::{State, Stop};
+use cesca::{State, Stop};
 
 /// Banks with this word at 0 and at 255, and a stack of sevens.
 fn sevens(word: [u8; 2]) -> Memory {

@@ -2,7 +2,7 @@
 
 use crate::by_hand::{check, flags, report};
 use crate::memory::{Guarded, Memory};
-use cesca_host::{Overflow, Report, State, Stop};
+use cesca::{Overflow, Report, State, Stop};
 
 /// The words that test V: jv, jnv, jlt, jle.
 const TESTERS: [[u8; 2]; 4] = [[0xC0, 0x50], [0xC4, 0x50], [0xD8, 0x50], [0xDC, 0x50]];

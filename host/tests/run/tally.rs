@@ -1,7 +1,7 @@
 //! What random runs came to, so that nothing goes untested.
 
-use cesca_host::reference::{Form, Step};
-use cesca_host::{Class, Report, RunRefusal};
+use cesca::{Class, Refusal, Report};
+use reference::{Form, Step};
 
 /// How often each thing was met.
 pub struct Tally {
@@ -55,7 +55,7 @@ impl Tally {
     }
 
     /// Counts an outcome.
-    pub fn outcome(&mut self, outcome: Result<Report, RunRefusal>) {
+    pub fn outcome(&mut self, outcome: &Result<Report, Refusal>) {
         match outcome {
             Ok(report) => self.stops[report.stop as usize] += 1,
             Err(refusal) => self.refusals[usize::from(refusal.number()) - 17] += 1,

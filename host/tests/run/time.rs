@@ -1,7 +1,7 @@
 //! Running times: the paper's examples, the edges, and the nearest tenth in exact numbers.
 
 use crate::random::each_case;
-use cesca_host::{running_time, TimeRefusal};
+use cesca::{running_time, Refusal};
 
 /// Clocks at and near the edges that are allowed.
 const CLOCKS: [u32; 16] =
@@ -35,15 +35,22 @@ fn examples() {
 
 #[test]
 fn a_clock_is_refused_before_cycles() {
-    let number = |cycles, clock| running_time(cycles, clock).map_err(TimeRefusal::number);
     for clock in [0, 1_000_001, 1_000_002, 1 << 31, u32::MAX] {
         for cycles in [0, 1, 8_000_000, 8_000_001, u32::MAX] {
-            assert_eq!(number(cycles, clock), Err(20), "{cycles} at {clock} Hz");
+            assert_eq!(
+                running_time(cycles, clock),
+                Err(Refusal::of_call(20)),
+                "{cycles} at {clock} Hz"
+            );
         }
     }
     for cycles in [8_000_001, 8_000_002, 1 << 31, u32::MAX] {
         for clock in CLOCKS {
-            assert_eq!(number(cycles, clock), Err(21), "{cycles} at {clock} Hz");
+            assert_eq!(
+                running_time(cycles, clock),
+                Err(Refusal::of_call(21)),
+                "{cycles} at {clock} Hz"
+            );
         }
     }
 }

@@ -2,7 +2,7 @@
 
 use crate::by_hand::{check, flags, report};
 use crate::memory::{Guarded, Memory};
-use cesca_host::{Overflow, Report, State, Stop};
+use cesca::{Overflow, Report, State, Stop};
 
 #[test]
 fn an_ack_shows_the_next_key_and_stays_at_the_end() {

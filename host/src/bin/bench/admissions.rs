@@ -2,8 +2,8 @@
 
 use crate::listings::listings;
 use crate::timing::{medians, timed, REPETITIONS};
-use cesca_host::reference::{self, Listing};
-use cesca_host::{admit, Ground};
+use cesca::{admit, Refusal};
+use reference::Listing;
 use std::hint::black_box;
 
 /// The admissions that are timed together.
@@ -28,7 +28,7 @@ pub fn table() {
 /// The seconds of a batch.
 pub fn seconds<A>(admit: A, listing: &Listing) -> f64
 where
-    A: Fn(&[u8], &[u8], &[u8], &[u8]) -> Result<(), Ground>,
+    A: Fn(&[u8], &[u8], &[u8], &[u8]) -> Result<(), Refusal>,
 {
     let batch = || {
         for _ in 0..BATCH {

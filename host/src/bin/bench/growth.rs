@@ -5,8 +5,8 @@ use crate::listings::{calls, CALLS};
 use crate::machines::library;
 use crate::programs::ALU;
 use crate::timing::{medians, REPETITIONS};
-use cesca_host::reference::{Listing, BANK};
-use cesca_host::{admit, MOST_STEPS};
+use cesca::{admit, BANK, MOST_STEPS};
+use reference::Listing;
 
 /// The budgets of the runs.
 const BUDGETS: [u32; 4] = [1_000, 10_000, 100_000, 1_000_000];

@@ -1,6 +1,7 @@
 //! Listings to admit or to refuse, early and late.
 
-use cesca_host::reference::{Listing, SheetWord, BANK};
+use cesca::BANK;
+use reference::{Listing, SheetWord};
 
 /// The entry of the last routine of a listing full of calls.
 const LAST_ENTRY: u8 = 252;
@@ -83,7 +84,10 @@ mod tests {
     #[test]
     fn the_names_tell_the_answers() {
         for (name, listing) in listings() {
-            let found = listing.admit().map_err(|ground| format!("refused {ground}"));
+            let found = listing.admit().map_err(|refusal| {
+                let place = refusal.place().expect("a place");
+                format!("refused {} at {place}", refusal.number())
+            });
             let refused = name.starts_with("refused");
             let wanted = if refused { Err(name.to_string()) } else { Ok(()) };
             assert_eq!(found, wanted);

@@ -1,17 +1,18 @@
 //! The three machines on one program, each with buffers of its own.
 
 use crate::timing::{medians, timed};
-use cesca_host::reference::{Listing, BANK};
-use cesca_host::{plain, predecoded, run, Lent, Report, RunRefusal, State};
+use baselines::{plain, predecoded};
+use cesca::{run, Lent, Refusal, Report, State, BANK};
+use reference::Listing;
 use std::hint::black_box;
 
 /// The words of the roll, more than a program here writes.
 const ROLL: usize = 100_000;
 
 /// A machine: what a run reports, or why it is refused.
-pub trait Machine: Fn(Lent<'_>, u32, State) -> Result<Report, RunRefusal> {}
+pub trait Machine: Fn(Lent<'_>, u32, State) -> Result<Report, Refusal> {}
 
-impl<M: Fn(Lent<'_>, u32, State) -> Result<Report, RunRefusal>> Machine for M {}
+impl<M: Fn(Lent<'_>, u32, State) -> Result<Report, Refusal>> Machine for M {}
 
 /// A machine with a program and the buffers of its runs, never cleared between them.
 pub struct Bench<'a, M> {

@@ -3,7 +3,7 @@
 mod texts;
 
 use crate::stored;
-use cesca_host::reference::Listing;
+use reference::Listing;
 pub use texts::{ALU, MIX};
 use texts::{BRANCHES, CALLS, MEMORY};
 
@@ -29,8 +29,8 @@ pub fn stored() -> Vec<(String, Listing)> {
 mod tests {
     use super::*;
     use crate::machines::library;
-    use cesca_host::reference::{run_watched, Form, BANK};
-    use cesca_host::{Class, Lent, State, Stop, MOST_STEPS};
+    use cesca::{Class, Lent, State, Stop, BANK, MOST_STEPS};
+    use reference::{run_watched, Form};
     use std::collections::HashSet;
 
     #[test]

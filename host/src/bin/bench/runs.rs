@@ -4,8 +4,8 @@ use crate::columns;
 use crate::machines::{in_turn, library, Turns};
 use crate::programs::{endless, stored};
 use crate::timing::REPETITIONS;
-use cesca_host::reference::Listing;
-use cesca_host::MOST_STEPS;
+use cesca::MOST_STEPS;
+use reference::Listing;
 
 /// Prints the table of runs, the endless programs first.
 pub fn table() {

@@ -4,8 +4,8 @@ use crate::columns;
 use crate::machines::{in_turn, Turns};
 use crate::programs::MIX;
 use crate::timing::REPETITIONS;
-use cesca_host::reference::Listing;
-use cesca_host::MOST_STEPS;
+use cesca::MOST_STEPS;
+use reference::Listing;
 
 /// The runs that are timed together.
 const RUNS: u32 = 10_000;

@@ -1,7 +1,7 @@
 //! Listings that are admitted and run.
 
 use super::{last, list, word, Named};
-use cesca_host::reference::Listing;
+use reference::Listing;
 
 /// The bytes of a list that is as long as can be.
 const LONGEST_LIST: usize = 128;

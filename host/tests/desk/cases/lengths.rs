@@ -1,7 +1,7 @@
 //! Inputs that are too short or too long.
 
 use super::Case;
-use cesca_host::reference::Listing;
+use reference::Listing;
 
 /// Listing A's file cut, or continued with zeros: 1, 2 and 3, and where the list is a good one.
 pub fn cases() -> Vec<Case> {

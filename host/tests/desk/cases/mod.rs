@@ -4,7 +4,7 @@ mod admitted;
 mod lengths;
 mod refused;
 
-use cesca_host::reference::Listing;
+use reference::Listing;
 
 /// A case: its name and the input.
 pub type Case = (&'static str, Vec<u8>);

@@ -1,7 +1,7 @@
 //! Listings of full length that are refused.
 
 use super::{last, list, sheet, word, Named};
-use cesca_host::reference::Listing;
+use reference::Listing;
 
 /// A jlt after a mask, V marked all the way.
 const MASKED: &str = "

@@ -1,0 +1,7 @@
+//! Two fast machines in Rust, to measure the proved library by: [`plain`] and [`predecoded`].
+
+#![warn(missing_docs)]
+
+mod parts;
+pub mod plain;
+pub mod predecoded;

@@ -1,0 +1,102 @@
+//! A board with a listing keyed in.
+
+use crate::calls::run;
+use crate::Listing;
+use cesca_types::{Lent, Refusal, Report, State, BANK};
+
+/// A board: its banks, its state and its roll.
+///
+/// What is proved of an admitted listing's runs holds of its board's, as long as the data is
+/// written in the start state alone.
+#[derive(Clone, Debug, PartialEq, Eq)]
+pub struct Board {
+    opcodes: [u8; BANK],
+    arguments: [u8; BANK],
+    data: [u8; BANK],
+    stack: [u8; BANK],
+    state: State,
+    roll: Vec<u16>,
+    /// The words of the roll that were written since the last reset.
+    words: usize,
+}
+
+impl Board {
+    /// The words of a board's roll, unless another number is asked for.
+    pub const ROLL: usize = 1_000;
+
+    /// A board with a listing, admitted or not, in the start state: data and stack are 0, and the
+    /// roll is empty.
+    pub fn new(listing: &Listing) -> Board {
+        Board {
+            opcodes: *listing.opcodes(),
+            arguments: *listing.arguments(),
+            data: [0; BANK],
+            stack: [0; BANK],
+            state: State::start(),
+            roll: vec![0; Board::ROLL],
+            words: 0,
+        }
+    }
+
+    /// The same board with an empty roll of so many words.
+    pub fn with_roll(self, words: usize) -> Board {
+        Board { roll: vec![0; words], words: 0, ..self }
+    }
+
+    /// What a run of at most `budget` steps from the state reached reports, or why there is none.
+    ///
+    /// The words that it writes stand in the roll behind those written before. The state has a
+    /// position in the keys, so a run that goes on is given the keys of the run before, or those
+    /// and more. A refusal changes nothing: 18 where the position is past the end of the keys, 19
+    /// where the budget is over [`MOST_STEPS`](crate::MOST_STEPS).
+    pub fn run(&mut self, keys: &[u8], budget: u32) -> Result<Report, Refusal> {
+        let lent = Lent {
+            opcodes: &self.opcodes,
+            arguments: &self.arguments,
+            keys,
+            ram: &mut self.data,
+            stack: &mut self.stack,
+            roll: &mut self.roll[self.words..],
+        };
+        let report = run(lent, budget, self.state)?;
+        self.state = report.state;
+        self.words += report.words;
+        Ok(report)
+    }
+
+    /// What a run of one step reports, or why there is none.
+    pub fn step(&mut self, keys: &[u8]) -> Result<Report, Refusal> {
+        self.run(keys, 1)
+    }
+
+    /// Goes back to the start state, with an empty roll; data and stack stay as they are.
+    pub fn reset(&mut self) {
+        self.state = State::start();
+        self.words = 0;
+    }
+
+    /// The state reached.
+    pub fn state(&self) -> &State {
+        &self.state
+    }
+
+    /// The bank of data.
+    pub fn data(&self) -> &[u8; BANK] {
+        &self.data
+    }
+
+    /// The bank of data for writing.
+    pub fn data_mut(&mut self) -> &mut [u8; BANK] {
+        &mut self.data
+    }
+
+    /// The bank of the stack.
+    pub fn stack(&self) -> &[u8; BANK] {
+        &self.stack
+    }
+
+    /// The words written to the roll since the last reset: a byte for data, 256 more for a command.
+    pub fn roll(&self) -> &[u16] {
+        &self.roll[..self.words]
+    }
+}

@@ -1,0 +1,97 @@
+//! CESCA's admission desk and machine for Rust programs, decided by the proved library.
+//!
+//! A loader reads a [`Listing`], has it [admitted](Listing::admit) and runs it on a [`Board`]:
+//!
+//! ```no_run
+//! use cesca::{Listing, MOST_STEPS};
+//!
+//! fn main() -> Result<(), Box<dyn std::error::Error>> {
+//!     let admitted = Listing::from_bytes(&std::fs::read("listing.bin")?)?.admit()?;
+//!     println!("needs {} bytes of stack", admitted.need());
+//!     let mut board = admitted.board();
+//!     let report = board.run(&[1, 2, 3], MOST_STEPS)?;
+//!     println!("{} after {} steps, OUT {}", report.stop, report.steps, report.state.out);
+//!     println!("LCD {:?}", board.roll());
+//!     Ok(())
+//! }
+//! ```
+//!
+//! A [`Refusal`] has a number, a place and words for both. Listing A of the scope paper is
+//! admitted, and it isn't with a need of 1 for routine 0:
+//!
+//! ```
+//! # fn main() -> Result<(), Box<dyn std::error::Error>> {
+//! use cesca::{Listing, Stop};
+//!
+//! let (mut opcodes, mut arguments, mut sheet) = ([0; 256], [0; 256], [0; 512]);
+//! opcodes[..8].copy_from_slice(&[0x30, 0xA8, 0xF0, 0xF8, 0x5E, 0x10, 0x88, 0xAC]);
+//! arguments[..8].copy_from_slice(&[0x05, 0x04, 0x00, 0x00, 0x00, 0x01, 0x00, 0x00]);
+//! let words: [u16; 8] = [0x8000, 0x8000, 0x8000, 0x8000, 0x8100, 0x8101, 0xC101, 0xC100];
+//! for (bytes, word) in sheet.chunks_mut(2).zip(words) {
+//!     bytes.copy_from_slice(&word.to_le_bytes());
+//! }
+//!
+//! let listing = |list: [u8; 4]| Listing::from_parts(opcodes, arguments, sheet, &list);
+//! let admitted = listing([0, 2, 4, 1])?.admit()?;
+//! assert_eq!(admitted.need(), 2);
+//! let report = admitted.board().run(&[], 1_000)?;
+//! assert_eq!((report.stop, report.steps, report.state.out), (Stop::Halted, 8, 6));
+//!
+//! let refusal = listing([0, 1, 4, 1])?.admit().unwrap_err();
+//! assert_eq!((refusal.number(), refusal.place()), (15, Some(1)));
+//! let words = "15 at 1: the call needs 2 bytes where routine 0 has 1 left";
+//! assert_eq!(refusal.to_string(), words);
+//!
+//! let admit = |list: [u8; 4]| cesca::admit(&opcodes, &arguments, &sheet, &list);
+//! assert_eq!(admit([0, 2, 4, 1]), Ok(()));
+//! assert_eq!(admit([0, 1, 4, 1]).unwrap_err().answer(), 15 + 256);
+//! # Ok(())
+//! # }
+//! ```
+//!
+//! Who keeps buffers of one's own calls [`admit`] and [`run`] on them, and [`decode`], [`encode`]
+//! and [`put`] on single instructions:
+//!
+//! ```
+//! use cesca::{Lent, State, Stop};
+//!
+//! let mov = cesca::decode([0x30, 0x05]); // mov R0, 5
+//! assert_eq!((mov.form, mov.d, mov.imm), (6, 0, 5));
+//! assert_eq!(cesca::encode(mov), Ok([0x30, 0x05]));
+//!
+//! let (mut opcodes, mut arguments) = ([0xF8; 256], [0; 256]); // hlt
+//! cesca::put(mov, &mut opcodes, &mut arguments, 0).unwrap();
+//! let (mut ram, mut stack) = ([0; 256], [0; 256]);
+//! let lent = Lent {
+//!     opcodes: &opcodes,
+//!     arguments: &arguments,
+//!     keys: &[],
+//!     ram: &mut ram,
+//!     stack: &mut stack,
+//!     roll: &mut [],
+//! };
+//! let report = cesca::run(lent, 1_000, State::start()).unwrap();
+//! assert_eq!((report.stop, report.steps, report.cycles), (Stop::Halted, 2, 5));
+//! assert_eq!(report.state.regs, [5, 0, 0, 0]);
+//! assert_eq!(cesca::running_time(report.cycles, 100), Ok(1)); // tenths of a second
+//! ```
+
+#![warn(missing_docs)]
+
+mod admitted;
+mod board;
+mod calls;
+mod explain;
+mod listing;
+mod raw;
+#[cfg(test)]
+mod samples;
+mod sheet;
+
+pub use admitted::Admitted;
+pub use board::Board;
+pub use calls::{admit, alu, decode, encode, facts, put, run, running_time};
+#[doc(inline)]
+pub use cesca_types::*;
+pub use listing::Listing;
+pub use sheet::{Routine, SheetWord};

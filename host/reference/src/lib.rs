@@ -1,0 +1,26 @@
+//! Desk and machine written once more, from the papers alone, to hold the proved library against.
+//!
+//! The instruction table is kept as text, letter for letter as the CESCA document prints it, and
+//! read bit by bit. Speed is no aim here; a reader with the document beside the table is.
+
+#![warn(missing_docs)]
+
+mod admission;
+mod alu;
+mod desk;
+mod facts;
+mod form;
+mod instruction;
+mod listing;
+mod machine;
+mod sheet;
+mod text;
+
+pub use admission::admit;
+pub use alu::{alu, Function};
+pub use desk::desk;
+pub use form::Form;
+pub use instruction::Instruction;
+pub use listing::Listing;
+pub use machine::{run, run_watched, Step};
+pub use sheet::{Routine, SheetWord};

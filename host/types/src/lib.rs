@@ -1,0 +1,15 @@
+//! The words in which CESCA's library and its reference are asked and answer, and the limits that
+//! both keep. Nothing here decides anything.
+
+#![warn(missing_docs)]
+
+mod answers;
+mod limits;
+mod machine;
+mod refusal;
+
+pub use answers::{AluAnswer, Class, Effect, Facts, Fields, Overflow};
+pub use limits::{BANK, MOST_LIST, MOST_READ, MOST_ROUTINES, SHEET};
+pub use limits::{FASTEST_CLOCK, MOST_CYCLES, MOST_STEPS};
+pub use machine::{Flags, Lent, Report, State, Stop};
+pub use refusal::Refusal;

@@ -1,0 +1,25 @@
+//! The papers' sizes and limits.
+
+/// The bytes of a bank.
+pub const BANK: usize = 256;
+
+/// The bytes of a sheet, two for each address.
+pub const SHEET: usize = 2 * BANK;
+
+/// The most routines that a list can have.
+pub const MOST_ROUTINES: usize = 64;
+
+/// The most bytes of a routine list, two for each routine.
+pub const MOST_LIST: usize = 2 * MOST_ROUTINES;
+
+/// The most bytes that the desk reads: one past the longest listing.
+pub const MOST_READ: usize = 2 * BANK + SHEET + MOST_LIST + 1;
+
+/// The most steps that a run may be given.
+pub const MOST_STEPS: u32 = 1_000_000;
+
+/// The fastest clock that a time is told for, in Hz.
+pub const FASTEST_CLOCK: u32 = 1_000_000;
+
+/// The most cycles that a time is told for.
+pub const MOST_CYCLES: u32 = 8_000_000;
