@@ -24,7 +24,7 @@ use Rattle.rules.proofs.ThirdDemand.{demand}
 use Rattle.admission.specs.Admission.{Admission}
 use Rattle.admission.specs.declared.scans.Stage.{Stage}
 use Rattle.admission.specs.declared.scans.Stage.the-variants.{Blanks, Routines, Entries, Addresses}
-use Rattle.admission.specs.internal.Parts.{EntriesFit}
+use Rattle.addresses.specs.internal.Parts.{EntriesFit}
 use Rattle.admission.specs.internal.Stages.{stageChecks, stagePlaces, StageReady, stageOf, sizesOf, startOf, scansOf, stagesOf}
 
 -- places are bytes

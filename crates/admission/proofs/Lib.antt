@@ -1,4 +1,1 @@
 pub mod Answer
-pub mod AtAddress
-pub mod Callees
-pub mod ClassGrounds

@@ -1,5 +1,2 @@
--- Definitions that only contracts of the crate's own functions cite; no promise to a user rests on them.
-pub mod Parts
+-- Definitions that only contracts of our own functions cite; no promise to a user rests on them.
 pub mod Stages
-pub mod Tests
-pub mod Words

@@ -1,8 +1,5 @@
 // The admission of listings: banks, stack sheet and routine list against 01's grounds 1 to 16.
-mod addresses;
-mod grounds;
 mod scans;
-mod sheet;
 
 ghost use Rattle.rules.specs.Sheet.{listing};
 ghost use Rattle.admission.specs.Admission.{Admission};

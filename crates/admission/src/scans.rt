@@ -1,13 +1,13 @@
 // The stages of admission: lengths, then scans of places, lowest first. In 01's words a ground is a
 // rule that a listing breaks, and its place an address or a routine.
-use super::addresses::address_ground;
-use super::grounds::blank_ground;
-use super::grounds::entry_ground;
-use super::grounds::first;
-use super::grounds::routine_ground;
-use super::sheet::entry_of;
+use addresses::address_ground;
 use rules::MAX_LIST_SIZE;
 use rules::SHEET_SIZE;
+use sheets::entry_of;
+use sheets::grounds::blank_ground;
+use sheets::grounds::entry_ground;
+use sheets::grounds::first;
+use sheets::grounds::routine_ground;
 use slices::BANK_SIZE;
 ghost use mathlib.Core.Path.{_≡_};
 ghost use Rattle.rules.specs.Sheet.{listing};

@@ -9,7 +9,7 @@ use Rattle.slices.specs.Checks.{Check, check, firstBroken}
 use Rattle.slices.specs.Sizes.{bankSize}
 use Rattle.admission.specs.declared.scans.Stage.{Stage}
 use Rattle.admission.specs.declared.scans.Stage.the-variants.{Blanks, Routines, Entries, Addresses}
-use Rattle.admission.specs.internal.Parts.{EntriesFit}
+use Rattle.addresses.specs.internal.Parts.{EntriesFit}
 
 -- the rules that a stage judges at a place
 abbrev pub stageChecks : Stage → Listing → ℕ → List Check

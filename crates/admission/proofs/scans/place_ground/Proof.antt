@@ -1,7 +1,7 @@
 -- An arm a stage: the tests on a word are those of the rules.
 -- Assumes nothing.
 use borrow.Author.Needs.{needs}
-use Rattle.admission.specs.internal.Words.{wordOf}
+use Rattle.sheets.specs.internal.Words.{wordOf}
 use Rattle.rules.specs.Grounds.{badBlank, badRoutine, badEntry}
 use Rattle.rules.specs.Sheet.{word, described, marked, routine, depth, routines, entry}
 use Rattle.slices.specs.Checks.{firstBroken}

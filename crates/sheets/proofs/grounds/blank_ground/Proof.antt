@@ -1,0 +1,14 @@
+-- The test of 4 on the word.
+-- Assumes nothing.
+use borrow.Author.Needs.{needs}
+use mathlib.Core.Path.{refl}
+use Rattle.sheets.proofs.grounds.blank_ground.Statement.{statement}
+use Rattle.sheets.proofs.grounds.blank_ground.Tie as tie
+
+pub blank-ground-spec : {M : Type 1} → statement M
+blank-ground-spec =
+    tie.close
+    (tie.spec
+    (λ c κs. search needs)
+    (λ c κs. search needs)
+    (λ c. rw (c .first .ensures, c .before .before .before .word-at .ensures) refl))
