@@ -1,7 +1,6 @@
 // The three demands, whole, of the functions that are exported and of the step that runs: each
 // function here only calls one of them and promises the demand's sentence, so a contract that is
 // weakened below fails here.
-use machine::StepResult;
 use model::State;
 use numbers::ComputedNumbers;
 use numbers::Encoding;
@@ -10,6 +9,7 @@ use numbers::Fields;
 use run_numbers::RunNumbers;
 use run_numbers::StateNumbers;
 use run_numbers::TimeNumbers;
+use stepping::StepResult;
 ghost use Rattle.examples.specs.Listings.{Answered};
 ghost use Rattle.examples.specs.Marked.{Marked};
 ghost use Rattle.model.specs.Run.{call, stepsBy};
@@ -58,7 +58,7 @@ pub fn step(
 ) -> StepResult
     ensures { λ r. ⌜ SecondOfStep (setting (now (opcodes .entry)) (now (arguments .entry)) (now (keys .entry))) (machineAt s (now (ram .entry)) (now (stack .entry)) (now (roll .entry)) words 0 0) (r .verdict) (r .cycles) (machineAt (r .state) (now (ram .exit)) (now (stack .exit)) (now (roll .exit)) (r .words) (stepsBy (r .verdict)) (r .cycles)) ⌝ }
 {
-    machine::step(opcodes, arguments, keys, ram, stack, roll, words, s)
+    stepping::step(opcodes, arguments, keys, ram, stack, roll, words, s)
 }
 
 // A running time: the first demand of its call.

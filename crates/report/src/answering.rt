@@ -65,7 +65,7 @@ fn run_program(opcodes: &[u8], arguments: &[u8], out: &mut [u8], at: usize) -> u
         &mut stack,
         &mut roll,
         BUDGET,
-        machine::start_state(),
+        calls::start_state(),
     );
     let answer = report.answer;
     let reached = report.state;

@@ -32,5 +32,5 @@ pub extern "C" fn cesca_run(
 pub extern "C" fn cesca_running_time(cycles: u32, clock: u32) -> TimeNumbers
     ensures { λ r. ⌜ TimeNumbered cycles clock r ⌝ }
 {
-    run_numbers::time_numbers(machine::running_time(cycles, clock))
+    run_numbers::time_numbers(timing::running_time(cycles, clock))
 }

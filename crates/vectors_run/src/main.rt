@@ -4,7 +4,7 @@ mod printing;
 
 use alu::Flags;
 use alu::Overflow;
-use machine::start_state;
+use calls::start_state;
 use model::State;
 use printing::byte;
 use printing::named;
@@ -323,7 +323,7 @@ fn timed(cycles: u32, clock: u32) {
     named(b"", cycles as u64);
     named(b" cycles at ", clock as u64);
     text(b" Hz:");
-    printing::time(machine::running_time(cycles, clock));
+    printing::time(timing::running_time(cycles, clock));
     text(b"\n");
 }
 
