@@ -16,9 +16,9 @@ use Rattle.admission.specs.Admission.{Admission}
 use Rattle.report.specs.Answered.{RunEnds, Answered}
 use Rattle.slices.specs.Parts.{partOf}
 use Rattle.report.specs.Desk.{listingIn, deskCall, ranOf, ranText, textBy, deskText, answerRoom}
-use Rattle.report.specs.Lines.{refusedLine, admittedLine}
-use Rattle.report.specs.Page.{Page, page, Written}
-use Rattle.report.proofs.Pages.{written-same, write-within, write-whole}
+use Rattle.lines.specs.Lines.{refusedLine, admittedLine}
+use Rattle.pages.specs.Page.{Page, page, Written}
+use Rattle.pages.proofs.Pages.{written-same, write-within, write-whole}
 use Rattle.report.proofs.Printed.{printed}
 use Rattle.report.proofs.RunEnds.{run-ends}
 

@@ -1,4 +1,4 @@
--- The lines that 01 shows, computed: listing A is admitted, and its run makes eight steps.
+-- Listing A, computed: it is admitted, and its run makes eight steps.
 -- Assumes nothing.
 use mathlib.Core.Path.{_≡_, refl, _∙_}
 use mathlib.Core.List.{_++_}
@@ -11,7 +11,8 @@ use Rattle.rules.specs.Grounds.{each, find, callee, badBlank, badRoutine, badEn
 use Rattle.rules.specs.Sheet.{word, described, marked, routine, depth, routines, entry, need}
 use Rattle.slices.specs.Checks.{firstBroken}
 use Rattle.report.specs.Desk.{ranOf, deskText}
-use Rattle.report.specs.Lines.{ascii, digits, decimal, numbered, refusedLine, admittedLine, stopWord, runLine}
+use Rattle.lines.specs.Lines.{admittedLine, runLine}
+use Rattle.lines.proofs.Shown.{shown}
 use Rattle.report.specs.Printed.{inputA, Printed}
 
 -- what admission and the run tell of listing A
@@ -19,11 +20,5 @@ computed : deskText inputA ≡ admittedLine 2 ++ runLine Halted 8 31 6 255
 unfolding deskText ranOf admitOf checks addressChecks each firstBroken find callee badBlank badRoutine badEntry word described marked routine depth routines entry need instrAt decodeOf formOf settlesOf aluOf sumOf differenceOf verdictOf runOf refusalOf callOf appliedOf stepOf
 computed = refl
 
--- the two lines of that
-lines : admittedLine 2 ++ runLine Halted 8 31 6 255 ≡ ascii "admitted need 2\nhalted steps 8 cycles 31 out 6 sp 255\n"
-unfolding digits decimal numbered admittedLine stopWord runLine
-lines = refl
-
 pub printed : Printed
-unfolding digits decimal numbered refusedLine stopWord runLine
-printed = record { listing-a = computed ∙ lines; spent-run = refl; refused-15 = refl; refused-at-0 = refl; largest = refl }
+printed = record { listing-a = computed ∙ shown .listing-a; lines = shown }

@@ -12,7 +12,7 @@ use Rattle.model.specs.declared.Stop.the-variants.{Halted, Spent, Unsettled, Fu
 use Rattle.rules.specs.Grounds.{admitOf}
 use Rattle.rules.specs.Sheet.{Listing}
 use Rattle.report.specs.Desk.{listingIn, ranOf, deskText, answerRoom}
-use Rattle.report.specs.Page.{page, writeOf}
+use Rattle.pages.specs.Page.{page, writeOf}
 use Rattle.report.specs.Printed.{Printed}
 
 -- "the other stop word is `spent`": the desk prints no third one

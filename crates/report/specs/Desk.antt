@@ -14,7 +14,7 @@ use Rattle.rules.specs.Grounds.{sheetSize, admitOf}
 use Rattle.rules.specs.Sheet.{Listing, listing, need}
 use Rattle.slices.specs.Parts.{partOf}
 use Rattle.slices.specs.Sizes.{bankSize}
-use Rattle.report.specs.Lines.{refusedLine, admittedLine, runLine}
+use Rattle.lines.specs.Lines.{refusedLine, admittedLine, runLine}
 
 -- "anything past 1,153 bytes is not read"
 abbrev pub inputSize : ℕ

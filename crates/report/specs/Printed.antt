@@ -1,14 +1,14 @@
--- The lines that 01 shows ('Listing A and the edges'), and some like them, byte for byte.
+-- What the desk prints for listing A (01, 'Listing A and the edges'), byte for byte, and other lines that 01 shows.
 -- Assumes nothing.
 use Prim.Native.Nat.{ℕ}
 use mathlib.Core.Path.{_≡_}
 use mathlib.Core.List.{List, [], _∷_, _++_}
-use Rattle.model.specs.declared.Stop.the-variants.{Spent}
 use Rattle.rules.specs.Grounds.{sheetSize}
 use Rattle.slices.specs.Parts.{padded}
 use Rattle.slices.specs.Sizes.{bankSize}
 use Rattle.report.specs.Desk.{deskText}
-use Rattle.report.specs.Lines.{ascii, decimal, refusedLine, runLine}
+use Rattle.pages.specs.Text.{ascii}
+use Rattle.lines.specs.Shown.{Shown}
 
 -- listing A as an input: "0 `30 05`, 1 `A8 04`, 2 `F0 00`, 3 `F8 00`, 4 `5E 00`, 5 `10 01`, 6 `88 00`, 7 `AC 00`"; "Sheet words: 8000 four
 -- times, 8100, 8101, C101, C100", low byte first; "List: 00 02 04 01"
@@ -23,10 +23,5 @@ inputA =
 pub record Printed : Type 0 where
   -- "Listing A prints exactly these two lines"
   pub listing-a : deskText inputA ≡ ascii "admitted need 2\nhalted steps 8 cycles 31 out 6 sp 255\n"
-  -- "the other stop word is `spent`"
-  pub spent-run : runLine Spent 1000 4000 0 254 ≡ ascii "spent steps 1000 cycles 4000 out 0 sp 254\n"
-  -- "for example, `refused 15 at 1`: the number, then the place, also where it is 0"
-  pub refused-15 : refusedLine 15 1 ≡ ascii "refused 15 at 1\n"
-  pub refused-at-0 : refusedLine 3 0 ≡ ascii "refused 3 at 0\n"
-  -- the largest number of 32 bits has the most digits
-  pub largest : decimal 4294967295 ≡ ascii "4294967295"
+  -- other lines that 01 shows
+  pub lines : Shown
