@@ -5,9 +5,15 @@ use crate::functions::functions;
 use crate::source::{below, crates, Source};
 
 /// The functions that a crate's users begin with, crate by crate.
-const ENTRIES: [(&str, &[&str]); 4] = [
-    ("machine", &["run", "step", "running_time"]),
-    ("isa", &["decode", "encode", "put"]),
+const ENTRIES: [(&str, &[&str]); 10] = [
+    ("decoding", &["decode"]),
+    ("encoding", &["encode", "put"]),
+    ("classes", &["classify"]),
+    ("execution", &["execute"]),
+    ("stepping", &["step"]),
+    ("calls", &["start_state", "refusal"]),
+    ("machine", &["run"]),
+    ("timing", &["running_time"]),
     ("report", &["answer"]),
     ("demands", &DEMANDS),
 ];
