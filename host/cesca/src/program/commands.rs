@@ -60,8 +60,8 @@ pub static COMMANDS: [Command; 5] = [
         number: 1..=1,
         options: &[],
         about: &[
-            "Shows the routines and each described address: routine, depth, V where it is",
-            "marked, instruction. What a refusal is about is marked with <.",
+            "Shows the routines and each described address: routine, depth, V where it",
+            "is marked, instruction. What a refusal is about is marked with <.",
         ],
         run: sheet::sheet,
     },

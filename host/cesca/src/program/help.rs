@@ -10,10 +10,11 @@ pub const SHORT: &str = "cesca admit|run|sheet|step|file|help ..";
 
 /// What FILE and TEXT are, and what the status tells.
 const NOTES: &str = "
-FILE is a listing as the desk reads it, TEXT one written as in listings/README.md.
-- is standard input, except for `cesca step`, which is told by it how to go on, and
+FILE is a listing as the desk reads it, TEXT one as in listings/README.md. - is
+standard input, but not for `cesca step`, which it tells how to go on; it is
 standard output for the FILE that `cesca file` makes.
-The status is 0 if all went well, 1 if something was refused, and 2 if usage or
+
+The status is 0 if all went well, 1 if something was refused, 2 if usage or
 input was wrong.";
 
 /// Writes how the program is used.
