@@ -38,7 +38,7 @@ fn obey(console: &mut Console, words: &[OsString]) -> Result<(), Failure> {
     }
     let Some(command) = COMMANDS.iter().find(|command| name == command.name) else {
         let reason = format!("there is no command {}", name.display());
-        return Err(Failure::Usage { reason, usage: help::SHORT.to_string() });
+        return Err(Failure::Usage { reason, usage: help::usage() });
     };
     let options = Options::parse(rest, command);
     let options = options.map_err(|reason| Failure::Usage { reason, usage: command.usage() })?;

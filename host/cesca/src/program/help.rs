@@ -5,9 +5,6 @@ use super::console::Console;
 use super::failure::Failure;
 use std::io::Write;
 
-/// How the program is typed.
-pub const SHORT: &str = "cesca admit|run|sheet|step|file|help ..";
-
 /// What FILE and TEXT are, and what the status tells.
 const NOTES: &str = "
 FILE is a listing as the desk reads it, TEXT one as in listings/README.md. - is
@@ -16,6 +13,12 @@ standard output for the FILE that `cesca file` makes.
 
 The status is 0 if all went well, 1 if something was refused, 2 if usage or
 input was wrong.";
+
+/// How the program is typed.
+pub fn usage() -> String {
+    let names: Vec<&str> = COMMANDS.iter().map(|command| command.name).collect();
+    format!("cesca {}|help ..", names.join("|"))
+}
 
 /// Writes how the program is used.
 pub fn help(console: &mut Console) -> Result<(), Failure> {
