@@ -75,7 +75,8 @@ fn expect(word: [u8; 2], instruction: &str) -> Result<(), String> {
     match instruction {
         "" => Err(format!("{opcode:02X} {argument:02X} lacks its instruction, `{meant}`")),
         _ if instruction != meant => {
-            Err(format!("{opcode:02X} {argument:02X} is `{meant}`, not `{instruction}`"))
+            let written = instruction.escape_debug();
+            Err(format!("{opcode:02X} {argument:02X} is `{meant}`, not `{written}`"))
         }
         _ => Ok(()),
     }

@@ -106,6 +106,7 @@ fn instructions_that_are_not_the_bytes() {
     check_line("0 8000 30 05 mov R0,5", "30 05 is `mov R0, 5`, not `mov R0,5`");
     check_line("0 8000 30 05 MOV R0, 5", "30 05 is `mov R0, 5`, not `MOV R0, 5`");
     check_line("0 8000 F8 00 hlt now", "F8 00 is `hlt`, not `hlt now`");
+    check_line("0 8000 F8 00 \u{1B}[2J", "F8 00 is `hlt`, not `\\u{1b}[2J`");
     check_line("3-4 8000 22 21 cmp R2, R1", "22 21 is `sub NONE, R2, R1`, not `cmp R2, R1`");
 }
 
