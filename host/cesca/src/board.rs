@@ -6,8 +6,8 @@ use cesca_types::{Lent, Refusal, Report, State, BANK};
 
 /// A board: its banks, its state and its roll.
 ///
-/// What is proved of an admitted listing holds of the runs of its board if the data is written
-/// before the first of them or just before a reset, and not in between.
+/// What is proved of an admitted listing's runs holds of its board's, as long as the data is
+/// written in the start state alone.
 #[derive(Clone, Debug, PartialEq, Eq)]
 pub struct Board {
     opcodes: [u8; BANK],

@@ -41,6 +41,10 @@
 //! assert_eq!((refusal.number(), refusal.place()), (15, Some(1)));
 //! let words = "15 at 1: the call needs 2 bytes where routine 0 has 1 left";
 //! assert_eq!(refusal.to_string(), words);
+//!
+//! let admit = |list: [u8; 4]| cesca::admit(&opcodes, &arguments, &sheet, &list);
+//! assert_eq!(admit([0, 2, 4, 1]), Ok(()));
+//! assert_eq!(admit([0, 1, 4, 1]).unwrap_err().answer(), 15 + 256);
 //! # Ok(())
 //! # }
 //! ```

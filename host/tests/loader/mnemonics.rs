@@ -15,7 +15,8 @@ fn every_word_that_would_go_on_past_255_is_named() {
         if refusal.number() == 13 {
             let text = Instruction::decode(word).to_string();
             let name = text.split(' ').next().expect("a mnemonic");
-            assert_eq!(refusal.words(), format!("{name} would go on past address 255"));
+            let start = format!("{name} would go on past address 255");
+            assert!(refusal.words().starts_with(&start), "{refusal}");
             named += 1;
         }
     }

@@ -101,9 +101,14 @@ impl<'a> Address<'a> {
 
     /// 13: going on where there is no next word.
     fn end(&self) -> Option<String> {
+        let when = match self.facts.class {
+            Class::Branch => " if it isn't taken",
+            Class::Call => " after its return",
+            _ => "",
+        };
         let name = self.mnemonic();
         (self.at == u8::MAX && self.goes_on())
-            .then(|| format!("{name} would go on past address 255"))
+            .then(|| format!("{name} would go on past address 255{when}"))
     }
 
     /// 14: a call of an address that is no routine's.

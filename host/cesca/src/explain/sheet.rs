@@ -13,8 +13,10 @@ pub fn blank(listing: &Listing, at: u8) -> Option<String> {
 /// 5: a routine that the list doesn't have.
 pub fn no_routine(listing: &Listing, at: u8) -> Option<String> {
     let (word, routines) = (listing.sheet_word(at), listing.routines().len());
-    (word.described && usize::from(word.routine) >= routines)
-        .then(|| format!("address {at} names routine {}, and there are {routines}", word.routine))
+    let routine = word.routine;
+    let there = if routines == 1 { "there is" } else { "there are" };
+    (word.described && usize::from(routine) >= routines)
+        .then(|| format!("address {at} names routine {routine}, and {there} {routines}"))
 }
 
 /// 6: the beginning of routine 0.

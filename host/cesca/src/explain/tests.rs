@@ -25,7 +25,7 @@ fn words_without_a_description() {
 #[test]
 fn routines_that_are_not_there() {
     check(a().sheet(3, 0x8700), "5 at 3: address 3 names routine 7, and there are 2");
-    check(a().list(&[0, 2]), "5 at 4: address 4 names routine 1, and there are 1");
+    check(a().list(&[0, 2]), "5 at 4: address 4 names routine 1, and there is 1");
 }
 
 #[test]
@@ -86,8 +86,10 @@ fn returns() {
 #[test]
 fn the_last_address() {
     check(last(0x8000, [0xFC, 0x00]), "13 at 255: nop would go on past address 255");
-    check(last(0x8000, [0xB0, 0x00]), "13 at 255: jz would go on past address 255");
-    check(last(0x8000, [0xA8, 0x04]), "13 at 255: call would go on past address 255");
+    let branch = "13 at 255: jz would go on past address 255 if it isn't taken";
+    check(last(0x8000, [0xB0, 0x00]), branch);
+    let call = "13 at 255: call would go on past address 255 after its return";
+    check(last(0x8000, [0xA8, 0x04]), call);
     check(last(0x8000, [0x20, 0x80]), "13 at 255: xor would go on past address 255");
 }
 

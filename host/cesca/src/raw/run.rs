@@ -80,7 +80,7 @@ impl RunNumbers {
     pub fn outcome(self) -> Result<Report, Refusal> {
         match self.number {
             0 => Ok(self.into()),
-            number => Err(refusal(number)),
+            number => refused(number),
         }
     }
 }
@@ -105,11 +105,13 @@ impl From<RunNumbers> for Report {
     }
 }
 
-/// The refusal with this number.
+/// The refusal with this number, handed back as the whole answer of a run: a refusal alone would
+/// have to be put where a report may stand, and every report copied once more.
 #[cold]
-fn refusal(number: u8) -> Refusal {
+#[inline(never)]
+fn refused(number: u8) -> Result<Report, Refusal> {
     match number {
-        17..=19 => Refusal::of_call(number),
+        17..=19 => Err(Refusal::of_call(number)),
         _ => unknown("refusal of a run", number),
     }
 }

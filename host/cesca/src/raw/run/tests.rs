@@ -65,9 +65,9 @@ fn a_refusal_comes_with_zeros_and_the_state_lent() {
 #[test]
 fn refusals_of_other_numbers_break_the_contract() {
     for number in 1..=255 {
-        let run = catch_unwind(|| refusal(number)).ok();
+        let run = catch_unwind(|| refused(number)).ok();
         let known = (17..=19).contains(&number);
-        assert_eq!(run, known.then(|| Refusal::of_call(number)), "{number}");
+        assert_eq!(run, known.then(|| Err(Refusal::of_call(number))), "{number}");
         let time = catch_unwind(|| TimeNumbers { number, tenths: 0 }.outcome()).ok();
         let known = (20..=21).contains(&number);
         assert_eq!(time, known.then(|| Err(Refusal::of_call(number))), "{number}");
