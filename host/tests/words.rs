@@ -1,6 +1,6 @@
 //! All 65,536 two-byte words, the library beside the reference.
 
-use cesca::{decode, encode, facts, Fields};
+use cesca::{decode, encode, facts, instruction_text, Fields};
 use reference::Instruction;
 
 /// Every two-byte word, opcode first.
@@ -30,5 +30,13 @@ fn every_word_has_the_facts_of_the_reference() {
     for word in words() {
         let wanted = Instruction::decode(word).facts();
         assert_eq!(facts(decode(word)), wanted, "word {word:02X?}");
+    }
+}
+
+#[test]
+fn every_word_is_spelled_as_in_the_reference() {
+    for word in words() {
+        let wanted = Instruction::decode(word).to_string();
+        assert_eq!(instruction_text(decode(word)), wanted, "word {word:02X?}");
     }
 }

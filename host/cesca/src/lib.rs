@@ -87,6 +87,7 @@ mod raw;
 #[cfg(test)]
 mod samples;
 mod sheet;
+mod text;
 
 pub use admitted::Admitted;
 pub use board::Board;
@@ -95,3 +96,4 @@ pub use calls::{admit, alu, decode, encode, facts, put, run, running_time};
 pub use cesca_types::*;
 pub use listing::Listing;
 pub use sheet::{Routine, SheetWord};
+pub use text::{instruction_text, TextError};

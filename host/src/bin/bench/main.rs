@@ -14,13 +14,25 @@ mod short;
 mod stored;
 mod timing;
 
-fn main() {
+use std::io::{self, ErrorKind, Write};
+
+fn main() -> io::Result<()> {
+    match tables(&mut io::stdout().lock()) {
+        // Nobody reads any longer.
+        Err(error) if error.kind() == ErrorKind::BrokenPipe => Ok(()),
+        outcome => outcome,
+    }
+}
+
+/// Prints the tables, one behind another.
+fn tables(out: &mut impl Write) -> io::Result<()> {
     let tables =
         [runs::table, short::table, growth::steps_table, growth::routines_table, admissions::table];
     for (number, table) in tables.into_iter().enumerate() {
         if number > 0 {
-            println!();
+            writeln!(out)?;
         }
-        table();
+        table(out)?;
     }
+    Ok(())
 }

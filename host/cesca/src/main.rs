@@ -1,0 +1,12 @@
+//! The program `cesca`: admits listings, runs them, shows their sheets and steps through them.
+
+mod program;
+
+use std::env;
+use std::ffi::OsString;
+use std::process::ExitCode;
+
+fn main() -> ExitCode {
+    let words: Vec<OsString> = env::args_os().skip(1).collect();
+    program::main(&words)
+}

@@ -1,0 +1,87 @@
+//! The commands that the program has.
+
+use super::console::Console;
+use super::failure::Failure;
+use super::options::Options;
+use super::{admit, file, run, sheet, step};
+use std::ops::RangeInclusive;
+
+/// A command.
+pub struct Command {
+    /// Its name.
+    pub name: &'static str,
+    /// The files that it takes, as the help names them.
+    pub files: &'static str,
+    /// How many they may be.
+    pub number: RangeInclusive<usize>,
+    /// The options that it takes, each with what stands for its value.
+    pub options: &'static [(&'static str, &'static str)],
+    /// What it does, line by line.
+    pub about: &'static [&'static str],
+    /// Does it.
+    pub run: fn(&mut Console, &Options) -> Result<(), Failure>,
+}
+
+impl Command {
+    /// How the command is typed.
+    pub fn usage(&self) -> String {
+        let options = self.options.iter().map(|(name, value)| format!(" [{name} {value}]"));
+        format!("cesca {} {}{}", self.name, self.files, options.collect::<String>())
+    }
+}
+
+/// The commands, in the order of the help.
+pub static COMMANDS: [Command; 5] = [
+    Command {
+        name: "admit",
+        files: "FILE..",
+        number: 1..=usize::MAX,
+        options: &[],
+        about: &["Tells of each listing whether it is admitted, or what is wrong with it."],
+        run: admit::admit,
+    },
+    Command {
+        name: "run",
+        files: "FILE",
+        number: 1..=1,
+        options: &[("--keys", "1,2,3"), ("--steps", "N"), ("--hz", "N")],
+        about: &[
+            "Runs an admitted listing from the start, with zero data and stack, for",
+            "1,000,000 steps at most or as many as --steps says. Keys are decimal or as",
+            "0x1C. The LCD's roll is shown as text: a command as [01]; a byte without a",
+            "character, a bracket and a backslash as \\x5B. With --hz, the time at this",
+            "clock is told; a board's clock can be set from 0.7 to 668 Hz.",
+        ],
+        run: run::run,
+    },
+    Command {
+        name: "sheet",
+        files: "FILE",
+        number: 1..=1,
+        options: &[],
+        about: &[
+            "Shows the routines and each described address: routine, depth, V where it",
+            "is marked, instruction. What a refusal is about is marked with <.",
+        ],
+        run: sheet::sheet,
+    },
+    Command {
+        name: "step",
+        files: "FILE",
+        number: 1..=1,
+        options: &[("--keys", "1,2,3")],
+        about: &[
+            "Steps through the run of an admitted listing. On standard input, an empty",
+            "line makes a step, a number makes that many, and q ends.",
+        ],
+        run: step::step,
+    },
+    Command {
+        name: "file",
+        files: "TEXT FILE",
+        number: 2..=2,
+        options: &[],
+        about: &["Makes the desk's file of a listing that is written as text."],
+        run: file::file,
+    },
+];

@@ -1,0 +1,12 @@
+//! Instructions and listings as text.
+
+mod draft;
+mod error;
+mod instruction;
+mod line;
+mod numbers;
+#[cfg(test)]
+mod tests;
+
+pub use error::TextError;
+pub use instruction::instruction_text;

@@ -1,0 +1,12 @@
+//! The program, run on stored listings and on others. What it should print is worked out by hand
+//! from the papers and from `listings/README.md`.
+
+mod admit;
+mod file;
+mod pipes;
+mod place;
+mod run;
+mod sheet;
+mod step;
+mod untouched;
+mod usage;

@@ -1,0 +1,72 @@
+//! Outputs that nobody reads, and outputs that can't be written.
+
+use crate::place::{expect_err, ran, Place};
+use std::fs::OpenOptions;
+use std::io::{self, BufRead, BufReader, Write};
+use std::process::Stdio;
+
+/// A listing that never stops.
+const ENDLESS: &str = "routine 0 at 0 need 0\n0 8000 A0 00 jmp 0";
+
+/// A directory with a listing that is admitted, one that is refused, one without an end, and a
+/// text.
+fn place(test: &str) -> Place {
+    let place = Place::new(test).with_stored(&["pushes.bin", "masked.bin"]);
+    place.with_listing("endless.bin", ENDLESS).with("mine.txt", ENDLESS)
+}
+
+#[test]
+fn a_closed_pipe_ends_every_command_quietly() {
+    let place = place("pipes-closed");
+    for (words, status) in [
+        (&["help"][..], 0),
+        (&["admit", "pushes.bin", "pushes.bin"], 0),
+        (&["run", "pushes.bin"], 0),
+        (&["sheet", "pushes.bin"], 0),
+        (&["sheet", "masked.bin"], 1),
+        (&["step", "pushes.bin"], 0),
+        (&["file", "mine.txt", "-"], 0),
+    ] {
+        let (reader, writer) = io::pipe().expect("a pipe");
+        drop(reader);
+        let output = place.command(words).stdout(writer).output().expect("the program starts");
+        expect_err(ran(output), status, "");
+    }
+}
+
+#[test]
+fn a_pipe_that_is_closed_later_ends_steps_without_an_end() {
+    let place = place("pipes-later");
+    let mut command = place.command(&["step", "endless.bin"]);
+    command.stdin(Stdio::piped()).stdout(Stdio::piped()).stderr(Stdio::piped());
+    let mut child = command.spawn().expect("the program starts");
+    let mut input = child.stdin.take().expect("a pipe");
+    input.write_all(b"99999999999999999999\n").expect("a line");
+    let mut lines = BufReader::new(child.stdout.take().expect("a pipe")).lines();
+    assert_eq!(lines.next().expect("a line").expect("text"), "0: jmp 0");
+    drop(lines);
+    expect_err(ran(child.wait_with_output().expect("the program ends")), 0, "");
+}
+
+#[test]
+fn what_cannot_be_written_is_told() {
+    // There, every write fails.
+    let Ok(full) = OpenOptions::new().write(true).open("/dev/full") else { return };
+    let place = place("pipes-full");
+    for words in [&["help"][..], &["admit", "pushes.bin"], &["sheet", "masked.bin"]] {
+        let full = full.try_clone().expect("a file");
+        let output = place.command(words).stdout(full).output().expect("the program starts");
+        expect_err(ran(output), 2, "standard output: No space left on device\n");
+    }
+}
+
+#[test]
+fn a_closed_standard_error_does_no_harm() {
+    let place = place("pipes-error");
+    for words in [&["admit", "none.bin"][..], &["frob"], &["run", "none.bin"]] {
+        let (reader, writer) = io::pipe().expect("a pipe");
+        drop(reader);
+        let output = place.command(words).stderr(writer).output().expect("the program starts");
+        expect_err(ran(output), 2, "");
+    }
+}

@@ -1,0 +1,128 @@
+//! Directories in which the program is run.
+
+use cesca::Listing;
+use std::ffi::OsStr;
+use std::fs;
+use std::io::Write;
+use std::path::{Path, PathBuf};
+use std::process::{self, Command, Output, Stdio};
+use std::sync::atomic::{AtomicUsize, Ordering};
+use std::thread;
+
+/// The directories made so far.
+static MADE: AtomicUsize = AtomicUsize::new(0);
+
+/// A directory of a test's own, which stays only if the test fails.
+pub struct Place {
+    directory: PathBuf,
+}
+
+/// How the program ended, and what it printed.
+#[derive(Debug, PartialEq, Eq)]
+pub struct Ran {
+    pub status: i32,
+    pub out: String,
+    pub err: String,
+}
+
+impl Place {
+    /// An empty directory.
+    pub fn new(test: &str) -> Place {
+        let (process, number) = (process::id(), MADE.fetch_add(1, Ordering::Relaxed));
+        let name = format!("{test}-{process}-{number}");
+        let directory = Path::new(env!("CARGO_TARGET_TMPDIR")).join(name);
+        fs::create_dir_all(&directory).expect("a directory");
+        Place { directory }
+    }
+
+    /// The path of a file here.
+    pub fn path(&self, name: &str) -> PathBuf {
+        self.directory.join(name)
+    }
+
+    /// The same with a file.
+    pub fn with(self, name: &str, bytes: impl AsRef<[u8]>) -> Place {
+        fs::write(self.path(name), bytes).expect("a file");
+        self
+    }
+
+    /// The same with copies of stored listings.
+    pub fn with_stored(self, names: &[&str]) -> Place {
+        names.iter().fold(self, |place, name| place.with(name, stored(name)))
+    }
+
+    /// The same with the file of a listing that is given as text.
+    pub fn with_listing(self, name: &str, text: &str) -> Place {
+        let listing = Listing::from_text(text).unwrap_or_else(|error| panic!("{error}"));
+        self.with(name, listing.to_bytes())
+    }
+
+    /// The bytes of a file here.
+    pub fn read(&self, name: &str) -> Vec<u8> {
+        fs::read(self.path(name)).expect("a file")
+    }
+
+    /// The names of the files here, in order.
+    pub fn names(&self) -> Vec<String> {
+        let entries = fs::read_dir(&self.directory).expect("a directory");
+        let names = entries.map(|entry| entry.expect("an entry").file_name().into_string());
+        let mut names: Vec<String> = names.map(|name| name.expect("a plain name")).collect();
+        names.sort();
+        names
+    }
+
+    /// The program with these words behind its name, ready to be run here.
+    pub fn command<W: AsRef<OsStr>>(&self, words: &[W]) -> Command {
+        let mut command = Command::new(env!("CARGO_BIN_EXE_cesca"));
+        command.args(words).current_dir(&self.directory).stdin(Stdio::null());
+        command
+    }
+
+    /// What the program does with these words.
+    pub fn cesca<W: AsRef<OsStr>>(&self, words: &[W]) -> Ran {
+        ran(self.command(words).output().expect("the program starts"))
+    }
+
+    /// What the program does with these words and this standard input.
+    pub fn cesca_given(&self, words: &[&str], input: impl AsRef<[u8]>) -> Ran {
+        let mut command = self.command(words);
+        command.stdin(Stdio::piped()).stdout(Stdio::piped()).stderr(Stdio::piped());
+        let mut child = command.spawn().expect("the program starts");
+        // The program may end before it has read everything.
+        let _ = child.stdin.take().expect("a pipe").write_all(input.as_ref());
+        ran(child.wait_with_output().expect("the program ends"))
+    }
+}
+
+impl Drop for Place {
+    fn drop(&mut self) {
+        if !thread::panicking() {
+            fs::remove_dir_all(&self.directory).expect("a directory");
+        }
+    }
+}
+
+/// The bytes of a stored listing.
+pub fn stored(name: &str) -> Vec<u8> {
+    let directory = Path::new(env!("CARGO_MANIFEST_DIR")).join("../../listings");
+    fs::read(directory.join(name)).unwrap_or_else(|error| panic!("{name}: {error}"))
+}
+
+/// How the program ended, and what it printed.
+pub fn ran(output: Output) -> Ran {
+    Ran {
+        status: output.status.code().expect("the program wasn't killed"),
+        out: String::from_utf8(output.stdout).expect("text"),
+        err: String::from_utf8(output.stderr).expect("text"),
+    }
+}
+
+/// Fails unless the program ended well and printed this.
+pub fn expect_out(found: Ran, out: &str) {
+    assert_eq!(found, Ran { status: 0, out: out.to_string(), err: String::new() });
+}
+
+/// Fails unless the program printed nothing but this on standard error, and ended so.
+pub fn expect_err(found: Ran, status: i32, err: &str) {
+    assert_eq!(found, Ran { status, out: String::new(), err: err.to_string() });
+}

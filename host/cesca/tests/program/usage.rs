@@ -1,0 +1,90 @@
+//! How the program is used, and how it isn't.
+
+use crate::place::{expect_err, expect_out, Place};
+
+/// The usage lines of the commands.
+const COMMANDS: [&str; 6] = [
+    "cesca admit FILE..",
+    "cesca run FILE [--keys 1,2,3] [--steps N] [--hz N]",
+    "cesca sheet FILE",
+    "cesca step FILE [--keys 1,2,3]",
+    "cesca file TEXT FILE",
+    "cesca help",
+];
+
+/// Fails unless the program refuses these words, for a reason and with the usage.
+fn check(words: &[&str], reason: &str, usage: &str) {
+    let place = Place::new("usage").with_stored(&["a.bin"]);
+    expect_err(place.cesca(words), 2, &format!("cesca: {reason}\nusage: {usage}\n"));
+}
+
+#[test]
+fn help() {
+    let place = Place::new("usage-help");
+    let found = place.cesca(&["help"]);
+    assert_eq!((found.status, found.err.as_str()), (0, ""));
+    let lines: Vec<&str> = found.out.lines().collect();
+    for command in COMMANDS {
+        assert!(lines.contains(&command), "{command}");
+    }
+    assert!(lines.iter().all(|line| line.len() <= 80), "{}", found.out);
+    for words in [&[][..], &["--help"], &["help", "run"], &["run", "--help"]] {
+        expect_out(place.cesca(words), &found.out);
+    }
+}
+
+#[test]
+fn other_commands() {
+    let usage = "cesca admit|run|sheet|step|file|help ..";
+    check(&["mine.bin"], "there is no command mine.bin", usage);
+    check(&["Admit", "a.bin"], "there is no command Admit", usage);
+    check(&["--keys", "1"], "there is no command --keys", usage);
+    check(&[""], "there is no command ", usage);
+}
+
+#[test]
+fn too_few_or_too_many_files() {
+    let [admit, run, sheet, step, file, _] = COMMANDS;
+    check(&["admit"], "admit takes FILE..", admit);
+    check(&["run"], "run takes FILE", run);
+    check(&["run", "--steps", "5"], "run takes FILE", run);
+    check(&["run", "a.bin", "a.bin"], "run takes FILE", run);
+    check(&["sheet"], "sheet takes FILE", sheet);
+    check(&["sheet", "a.bin", "a.bin"], "sheet takes FILE", sheet);
+    check(&["step"], "step takes FILE", step);
+    check(&["step", "a.bin", "5"], "step takes FILE", step);
+    check(&["file", "mine.txt"], "file takes TEXT FILE", file);
+    check(&["file", "a", "b", "c"], "file takes TEXT FILE", file);
+}
+
+#[test]
+fn other_options() {
+    let [admit, run, sheet, step, file, _] = COMMANDS;
+    check(&["admit", "--keys", "1", "a.bin"], "admit has no option --keys", admit);
+    check(&["run", "a.bin", "--clock", "5"], "run has no option --clock", run);
+    check(&["run", "a.bin", "--hz=5"], "run has no option --hz=5", run);
+    check(&["run", "a.bin", "-k", "5"], "run has no option -k", run);
+    check(&["sheet", "--", "a.bin"], "sheet has no option --", sheet);
+    check(&["step", "a.bin", "--steps", "5"], "step has no option --steps", step);
+    check(&["file", "a", "b", "--hz", "5"], "file has no option --hz", file);
+}
+
+#[test]
+fn values_that_are_wrong() {
+    let [_, run, _, step, ..] = COMMANDS;
+    check(&["run", "a.bin", "--steps"], "--steps lacks its value", run);
+    for value in ["", "five", "+5", "-5", "0x10", "1,000", "5.0"] {
+        let reason = format!("--steps {value:?} is no number");
+        check(&["run", "a.bin", "--steps", value], &reason, run);
+        let reason = format!("--hz {value:?} is no number");
+        check(&["run", "a.bin", "--hz", value], &reason, run);
+    }
+    for value in ["", "256", "+5", "0x", "0x100", "a"] {
+        let reason = format!("{value:?} is no key: 0 to 255 or 0x00 to 0xFF, with commas");
+        check(&["run", "a.bin", "--keys", value], &reason, run);
+        check(&["step", "a.bin", "--keys", &format!("1,{value},2")], &reason, step);
+    }
+    check(&["step", "a.bin", "--keys"], "--keys lacks its value", step);
+    let twice = ["run", "--hz", "5", "a.bin", "--hz", "5"];
+    check(&twice, "--hz is given twice", run);
+}
