@@ -5,7 +5,6 @@
 //! words stay.
 
 mod address;
-mod mnemonic;
 mod sheet;
 mod successor;
 #[cfg(test)]

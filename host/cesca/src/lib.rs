@@ -16,7 +16,8 @@
 //! }
 //! ```
 //!
-//! A [`Refusal`] has a number, a place and words for both. Listing A of the scope paper is
+//! A listing written as text is read by [`Listing::from_text`], and [`instruction_text`] spells an
+//! instruction. A [`Refusal`] has a number, a place and words for both. Listing A of the scope paper is
 //! admitted, and it isn't with a need of 1 for routine 0:
 //!
 //! ```

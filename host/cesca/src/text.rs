@@ -9,4 +9,4 @@ mod numbers;
 mod tests;
 
 pub use error::TextError;
-pub use instruction::instruction_text;
+pub use instruction::{instruction_text, mnemonic};

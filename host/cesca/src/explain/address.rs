@@ -1,7 +1,7 @@
 //! One described address and its instruction: 8 to 15.
 
-use super::mnemonic::mnemonic;
 use crate::calls::facts;
+use crate::text::mnemonic;
 use crate::{Listing, SheetWord};
 use cesca_types::{Class, Facts, Fields};
 

@@ -103,8 +103,7 @@ const FUNCTIONS: [(&str, &[Operand]); 16] = [
 /// A form over 39 is taken as 39, a function number over 15 as 15; a register number over 3 is
 /// shown as it is.
 pub fn instruction_text(fields: Fields) -> String {
-    let (name, operands) = row(&FORMS, fields.form);
-    let (name, more) = if name == ALU { row(&FUNCTIONS, fields.f) } else { (name, &[][..]) };
+    let (name, operands, more) = spelling(fields);
     let operands = operands.iter().chain(more).map(|operand| operand.text(fields));
     let operands = operands.collect::<Vec<_>>().join(", ");
     if operands.is_empty() {
@@ -112,6 +111,21 @@ pub fn instruction_text(fields: Fields) -> String {
     } else {
         format!("{name} {operands}")
     }
+}
+
+/// The mnemonic of an instruction: `mov`.
+pub fn mnemonic(fields: Fields) -> &'static str {
+    spelling(fields).0
+}
+
+/// The mnemonic, the operands of the form, and those of the ALU's function behind them.
+fn spelling(fields: Fields) -> (&'static str, &'static [Operand], &'static [Operand]) {
+    let (name, operands) = row(&FORMS, fields.form);
+    if name != ALU {
+        return (name, operands, &[]);
+    }
+    let (name, more) = row(&FUNCTIONS, fields.f);
+    (name, operands, more)
 }
 
 /// The row of a table with this number, or the last one.
