@@ -22,7 +22,8 @@ pub fn functions(machine: Machine, r0: u8, r1: u8) -> Vec<String> {
     (0..16).map(line).collect()
 }
 
-/// For each conditional jump after cmp of R0 with an immediate: T where it jumps, F where it goes on.
+/// A letter for each conditional jump after cmp of R0 with an immediate: T where it jumps, F where
+/// it goes on.
 pub fn jumps(machine: Machine, r0: u8, imm: u8) -> String {
     let taken = |jump: u8| {
         // cmp R0, imm; the jump to 3; hlt; nop; hlt
