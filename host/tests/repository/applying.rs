@@ -36,7 +36,7 @@ fn every_edit_applies() {
 #[test]
 fn an_edit_that_does_not_apply_is_found() {
     let text = "file: a\nold: x\nnew: y\nold: y\nnew: z\nold: x\nnew: y\nold: b\nnew: c\n";
-    let edit = Source { file: "e.edit".to_string(), text: text.to_string() };
+    let edit = Source::new("e.edit", text);
     let found = findings(&edit, |_| "x b b".to_string());
     assert_eq!(messages(found), ["e.edit:6: stands 0 times", "e.edit:8: stands 2 times"]);
 }

@@ -94,7 +94,7 @@ pub fn g() {
 
 /// The same as a source.
 fn asking() -> Source {
-    Source { file: "lib.rt".to_string(), text: ASKING.to_string() }
+    Source::new("lib.rt", ASKING)
 }
 
 #[test]

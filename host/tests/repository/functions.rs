@@ -2,6 +2,8 @@
 
 mod tests;
 
+use crate::items::name;
+
 /// A function that others may call.
 #[derive(Debug, PartialEq, Eq)]
 pub struct Function {
@@ -20,18 +22,6 @@ pub fn functions(text: &str) -> Vec<Function> {
     let code = without_comments(text);
     let starts = code.match_indices("fn ").map(|(at, _)| at);
     starts.filter_map(|at| function(&code, at)).collect()
-}
-
-/// The names of all functions of a file.
-pub fn names(text: &str) -> Vec<String> {
-    let code = without_comments(text);
-    let names = code.match_indices("fn ").map(|(at, start)| name(&code[at + start.len()..]));
-    names.map(str::to_string).collect()
-}
-
-/// The name that a text begins with.
-fn name(text: &str) -> &str {
-    text.split(|letter: char| !is_of_name(letter)).next().unwrap_or_default()
 }
 
 /// The function whose `fn` stands here, if others may call it.
@@ -97,9 +87,4 @@ fn last_line(text: &str) -> &str {
 /// The line of a place, the first being 1.
 fn line(text: &str, at: usize) -> usize {
     1 + text[..at].matches('\n').count()
-}
-
-/// Whether a letter may stand in a name.
-fn is_of_name(letter: char) -> bool {
-    letter.is_alphanumeric() || letter == '_'
 }

@@ -26,7 +26,7 @@ fn no_definition_rests_on_a_proof() {
 #[test]
 fn an_import_from_proofs_is_found() {
     let text = "-- use proofs\nuse lib.L.{getD}\nuse R·s.proofs.L.{m}\n  pub use a.proofs -- b\n";
-    let source = Source { file: "S.antt".to_string(), text: text.to_string() };
+    let source = Source::new("S.antt", text);
     let wanted = ["S.antt:3: use R·s.proofs.L.{m}", "S.antt:4: pub use a.proofs"];
     assert_eq!(messages(findings(&source)), wanted);
 }

@@ -73,7 +73,7 @@ fn independence() {
 #[test]
 fn a_dependency_too_many_or_too_few_is_found() {
     let found = |text: &str| {
-        let source = Source { file: "Cargo.toml".to_string(), text: text.to_string() };
+        let source = Source::new("Cargo.toml", text);
         messages(manifest_findings(&source, &["t"]))
     };
     assert_eq!(found("[package]\nname = \"a\"\n[dependencies]\nt = { path = \"t\" }"), [""; 0]);

@@ -5,11 +5,13 @@
 
 mod applying;
 mod contracts;
-mod edits;
+mod definitions;
 mod finding;
 mod functions;
 mod imports;
 mod independence;
+mod items;
+mod known;
 mod numbers;
 mod promises;
 mod source;

@@ -50,7 +50,7 @@ fn each_ground_has_a_row() {
 fn readme(numbers: impl IntoIterator<Item = usize>) -> Source {
     let rows = numbers.into_iter().map(|number| format!("| {number} | wrong | 0 |\n"));
     let text = format!("# Title\n\n| number | what |\n|---|---|\n{}", rows.collect::<String>());
-    Source { file: "README.md".to_string(), text }
+    Source::new("README.md", &text)
 }
 
 #[test]
@@ -75,5 +75,5 @@ fn a_number_again_and_no_number_are_found() {
 fn a_table_that_is_gone_is_found() {
     assert_eq!(findings(&readme([])).len(), LAST);
     let text = readme(1..=LAST).text.replace(HEADING, "ground");
-    assert_eq!(findings(&Source { file: "README.md".to_string(), text }).len(), LAST);
+    assert_eq!(findings(&Source::new("README.md", &text)).len(), LAST);
 }

@@ -1,91 +1,58 @@
-//! The promises name every must-fail edit, and none that is gone.
+//! The promises name every must-fail edit, and nothing that isn't there.
 
+mod columns;
+mod lookup;
+mod names;
+mod tested;
 mod tests;
 
-use crate::edits::Crates;
 use crate::finding::{expect_none, Finding};
+use crate::known::Known;
 use crate::source::{read, Source};
 use crate::table::{quoted, rows, Cell, Row};
+use columns::Column;
+use names::{names, Kind};
 use std::collections::BTreeSet;
 
-/// The parts of a crate, which are no edits where one stands behind its name.
-const PARTS: [&str; 3] = ["src", "specs", "proofs"];
-
-/// The edits that no row names, as `crate/edit` or, where the row names the crate, as `edit`.
-fn unnamed(promises: &Source, crates: &Crates) -> Vec<Finding> {
-    let rows = rows(&promises.text);
-    let unnamed = crates.edits.iter().filter(|(name, edit)| {
-        let full = format!("{name}/{edit}");
-        !rows.iter().any(|row| {
-            let names = |wanted: &str| quotes(row).any(|quoted| quoted == wanted);
-            names(&full) || names(edit) && crates_of(row, crates).contains(name.as_str())
-        })
-    });
-    let findings = unnamed.map(|(name, edit)| {
-        let file = format!("crates/{name}/must-fail/{edit}.edit");
+/// The edits that no line names, as `crate/edit`.
+fn unnamed(promises: &Source, known: &Known) -> Vec<Finding> {
+    let named: BTreeSet<&str> = promises.text.lines().flat_map(quoted).collect();
+    let unnamed = known.edits().filter(|edit| !named.contains(edit.as_str()));
+    let findings = unnamed.map(|edit| {
+        let file = format!("crates/{}.edit", edit.replace('/', "/must-fail/"));
         Finding::new(&file, 1, format!("{} doesn't name it", promises.file))
     });
     findings.collect()
 }
 
-/// The names of edits that are none: `crate/edit` anywhere, and `edit` in a cell of edits.
-fn gone(promises: &Source, crates: &Crates) -> Vec<Finding> {
+/// What is named and isn't there.
+fn missing(promises: &Source, known: &Known) -> Vec<Finding> {
     let mut findings = Vec::new();
     for row in rows(&promises.text) {
-        let here = crates_of(&row, crates);
-        let row_of = here.iter().copied().collect::<Vec<_>>().join(", ");
-        for cell in &row.cells {
-            let wrong = quoted(cell.text).filter_map(|name| match full(name, crates) {
-                Some((of, edit)) if crates.has(of, edit) => None,
-                Some(_) => Some(format!("`{name}` is no must-fail edit")),
-                None if !of_edits(cell, crates) || !is_bare(name) => None,
-                None if is_known(name, &here, crates) => None,
-                None => Some(format!("`{name}` is no must-fail edit of {row_of}, and no function")),
-            });
-            findings.extend(wrong.map(|what| Finding::new(&promises.file, row.line, what)));
-        }
+        let wrong = row.cells.iter().flat_map(|cell| missing_in(cell, known));
+        findings.extend(wrong.map(|what| Finding::new(&promises.file, row.line, what)));
     }
     findings
 }
 
-/// What stands in backquotes in a row.
-fn quotes<'a>(row: &Row<'a>) -> impl Iterator<Item = &'a str> {
-    let texts: Vec<&str> = row.cells.iter().map(|cell| cell.text).collect();
-    texts.into_iter().flat_map(quoted)
-}
-
-/// The crates that a row names.
-fn crates_of<'a>(row: &Row<'a>, crates: &'a Crates) -> BTreeSet<&'a str> {
-    quotes(row).filter_map(|quoted| crates.named(quoted)).collect()
-}
-
-/// Crate and edit of a name of the form `crate/edit`.
-fn full<'a>(quoted: &'a str, crates: &Crates) -> Option<(&'a str, &'a str)> {
-    let (name, edit) = quoted.split_once('/')?;
-    let is_edit = is_name(edit) && !PARTS.contains(&edit);
-    (crates.names.contains(name) && is_edit).then_some((name, edit))
-}
-
-/// Whether a cell is of edits: by its column's heading, or since it names one with its crate.
-fn of_edits(cell: &Cell<'_>, crates: &Crates) -> bool {
-    let headed = ["edit", "ruled out"].iter().any(|words| cell.heading.contains(words));
-    headed || quoted(cell.text).any(|quoted| full(quoted, crates).is_some())
-}
-
-/// Whether a name looks as an edit's does: two words at least.
-fn is_bare(quoted: &str) -> bool {
-    is_name(quoted) && quoted.contains('_')
-}
-
-/// Whether a text is a name.
-fn is_name(text: &str) -> bool {
-    let of_name = |letter: char| letter.is_ascii_lowercase() || letter.is_ascii_digit();
-    !text.is_empty() && text.chars().all(|letter| of_name(letter) || letter == '_')
-}
-
-/// Whether a name is an edit of one of these crates, or a function.
-fn is_known(name: &str, here: &BTreeSet<&str>, crates: &Crates) -> bool {
-    here.iter().any(|of| crates.has(of, name)) || crates.functions.contains(name)
+/// What is named in a cell and isn't there, or why that can't be told.
+fn missing_in(cell: &Cell<'_>, known: &Known) -> Vec<String> {
+    let is_odd = |mark: char| cell.text.matches(mark).count() % 2 == 1;
+    let Some(column) = Column::of(cell.heading) else {
+        return vec![format!("no rule for the column \"{}\"", cell.heading)];
+    };
+    let (names, tests) = (names(cell.text), tested::tests(cell.text));
+    match column {
+        Column::Papers => Vec::new(),
+        _ if is_odd('`') => vec!["a backquote without another".to_string()],
+        Column::Tests if is_odd('"') => vec!["a quote without another".to_string()],
+        Column::Definitions => {
+            names.iter().filter_map(|name| lookup::wrong_definition(name, known)).collect()
+        }
+        Column::Carriers => names.iter().filter_map(|name| lookup::wrong(name, known)).collect(),
+        Column::Tests => tests.iter().filter_map(|test| tested::wrong(*test, known)).collect(),
+        Column::Examples => tested::wrong_examples(cell.text, known),
+    }
 }
 
 /// The promises.
@@ -95,12 +62,41 @@ fn promises() -> Source {
 
 #[test]
 fn every_edit_is_named() {
-    let crates = Crates::read();
-    assert!(crates.edits.len() >= 90, "only {} edits are seen", crates.edits.len());
-    expect_none(unnamed(&promises(), &crates));
+    let known = Known::read();
+    let edits = known.edits().count();
+    assert!(edits >= 90, "only {edits} edits are seen");
+    expect_none(unnamed(&promises(), &known));
 }
 
 #[test]
-fn every_edit_that_is_named_is_there() {
-    expect_none(gone(&promises(), &Crates::read()));
+fn everything_that_is_named_is_there() {
+    expect_none(missing(&promises(), &Known::read()));
+}
+
+/// What stands in the columns of a kind.
+fn texts<'a>(rows: &[Row<'a>], column: Column) -> Vec<&'a str> {
+    let cells = rows.iter().flat_map(|row| &row.cells);
+    let wanted = cells.filter(|cell| Column::of(cell.heading) == Some(column));
+    wanted.map(|cell| cell.text).collect()
+}
+
+#[test]
+fn enough_names_are_looked_at() {
+    let promises = promises();
+    let rows = rows(&promises.text);
+    let count = |column, wanted: fn(&Kind<'_>) -> bool| {
+        let names = texts(&rows, column).into_iter().flat_map(names);
+        names.filter(|name| wanted(&name.kind)).count()
+    };
+    let tests: Vec<_> = texts(&rows, Column::Tests).into_iter().flat_map(tested::tests).collect();
+    for (found, enough, what) in [
+        (count(Column::Definitions, |kind| *kind != Kind::Module), 200, "definitions"),
+        (count(Column::Carriers, |kind| matches!(kind, Kind::Path(_))), 200, "paths"),
+        (count(Column::Carriers, |kind| matches!(kind, Kind::Item(..))), 150, "functions"),
+        (count(Column::Carriers, |kind| matches!(kind, Kind::Field(..))), 20, "fields"),
+        (tests.len(), 80, "tests"),
+        (tests.iter().filter(|(_, case)| case.is_some()).count(), 15, "cases"),
+    ] {
+        assert!(found >= enough, "only {found} {what} are looked at");
+    }
 }

@@ -11,6 +11,13 @@ pub struct Source {
     pub text: String,
 }
 
+impl Source {
+    /// A file with this text.
+    pub fn new(file: &str, text: &str) -> Source {
+        Source { file: file.to_string(), text: text.to_string() }
+    }
+}
+
 /// The repository's root.
 pub fn root() -> PathBuf {
     Path::new(env!("CARGO_MANIFEST_DIR")).join("..")
@@ -36,21 +43,21 @@ pub fn below(name: &str, part: &str, ending: &str) -> Vec<Source> {
 
 /// The files with an ending in a directory and below, in order; none if there is no such directory.
 pub fn files(directory: &str, ending: &str) -> Vec<Source> {
-    let mut found = Vec::new();
-    collect(directory, ending, &mut found);
-    found
+    paths(directory).iter().filter(|path| path.ends_with(ending)).map(|path| read(path)).collect()
 }
 
-/// Adds the files with an ending in a directory and below.
-fn collect(directory: &str, ending: &str, found: &mut Vec<Source>) {
-    for entry in entries(directory) {
+/// The paths of all files in a directory and below, in order; none if there is no such directory.
+pub fn paths(directory: &str) -> Vec<String> {
+    let inside = entries(directory).into_iter().flat_map(|entry| {
         let path = format!("{directory}/{entry}");
-        if root().join(&path).is_dir() {
-            collect(&path, ending, found);
-        } else if path.ends_with(ending) {
-            found.push(read(&path));
+        let is_directory = root().join(&path).is_dir();
+        if is_directory {
+            paths(&path)
+        } else {
+            vec![path]
         }
-    }
+    });
+    inside.collect()
 }
 
 /// The names in a directory, in order; none if there is no such directory.

@@ -16,6 +16,7 @@ mod stops;
 mod tally;
 mod time;
 mod transfers;
+mod worked;
 
 use baselines::{plain, predecoded};
 use cesca::{Lent, Refusal, Report, State};

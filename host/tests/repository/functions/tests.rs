@@ -1,6 +1,6 @@
 //! The functions of small files.
 
-use super::{functions, names, Function};
+use super::{functions, Function};
 
 /// Comments, a function of its own and two for others, one exported.
 const MIXED: &str = "\
@@ -49,11 +49,6 @@ fn messages(text: &str) -> Vec<(String, bool, usize, Option<usize>)> {
 #[test]
 fn public_and_exported_functions_are_seen() {
     assert_eq!(messages(MIXED), [("c_f".into(), true, 4, None), ("f".into(), false, 8, None)]);
-}
-
-#[test]
-fn all_functions_have_names() {
-    assert_eq!(names(MIXED), ["own", "c_f", "f"]);
 }
 
 #[test]
