@@ -12,6 +12,7 @@ mod imports;
 mod independence;
 mod items;
 mod known;
+mod links;
 mod numbers;
 mod promises;
 mod source;

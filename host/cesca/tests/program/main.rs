@@ -5,6 +5,7 @@ mod admit;
 mod file;
 mod pipes;
 mod place;
+mod readme;
 mod run;
 mod sheet;
 mod step;
