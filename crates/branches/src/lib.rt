@@ -1,6 +1,6 @@
 // Conditional jumps. Each has one of four outcomes, which meet in one function: compiled, the eight
-// jumps that don't ask for V are then branches, which the CPU foresees. A test in each arm became a
-// choice between two values of PC, for which the next fetch had to wait.
+// jumps that don't ask for V are then branches, which the CPU foresees. A test in each arm would
+// be a choice between two values of PC, for which the next fetch has to wait.
 use alu::Overflow;
 use effects::Action;
 use effects::Effect;

@@ -33,7 +33,7 @@ ghost use Rattle.execution.specs.internal.Operands.{IsOperand};
 
 // The effect of an instruction at the state before its fetch. Ra's byte x comes from the caller, who
 // reads it before the form is known: it has the same two bits in every opcode that has an Ra. Read in
-// the arms, the registers did not stay in a CPU register from step to step.
+// the arms, the registers would not stay in a CPU register from step to step.
 fn execute_form(instr: Instr, x: u8, before: State, keys: &[u8], ram: &[u8], stack: &[u8]) -> Effect
     requires { ⌜ IsOperand before x (opcodeIn (rowOf instr)) ⌝ }
     ensures { λ r. ⌜ behaviorBy r ≡ behaviorOf instr (fetched before) (getD (now (stack .entry)) (before .sp) 0) (now (ram .entry)) (now (keys .entry)) ⌝ }
