@@ -26,12 +26,12 @@ use std::process::ExitCode;
 /// Does what the words behind the program's name ask, and yields the status.
 pub fn main(words: &[OsString]) -> ExitCode {
     let mut console = Console::new();
-    let outcome = obey(&mut console, words);
+    let outcome = dispatch(&mut console, words);
     console.end(outcome)
 }
 
 /// Does what the words ask.
-fn obey(console: &mut Console, words: &[OsString]) -> Result<(), Failure> {
+fn dispatch(console: &mut Console, words: &[OsString]) -> Result<(), Failure> {
     let Some((name, rest)) = words.split_first() else { return help::help(console) };
     if name == "help" || words.iter().any(|word| word == "--help") {
         return help::help(console);

@@ -1,6 +1,6 @@
 //! How the program is used, and how it isn't.
 
-use crate::place::{expect_err, expect_out, Place};
+use crate::sandbox::{expect_err, expect_out, Sandbox};
 
 /// The usage lines of the commands.
 const COMMANDS: [&str; 6] = [
@@ -14,14 +14,14 @@ const COMMANDS: [&str; 6] = [
 
 /// Fails unless the program refuses these words, for a reason and with the usage.
 fn check(words: &[&str], reason: &str, usage: &str) {
-    let place = Place::new("usage").with_stored(&["a.bin"]);
-    expect_err(place.cesca(words), 2, &format!("cesca: {reason}\nusage: {usage}\n"));
+    let sandbox = Sandbox::new("usage").with_stored(&["a.bin"]);
+    expect_err(sandbox.cesca(words), 2, &format!("cesca: {reason}\nusage: {usage}\n"));
 }
 
 #[test]
 fn help() {
-    let place = Place::new("usage-help");
-    let found = place.cesca(&["help"]);
+    let sandbox = Sandbox::new("usage-help");
+    let found = sandbox.cesca(&["help"]);
     assert_eq!((found.status, found.err.as_str()), (0, ""));
     let lines: Vec<&str> = found.out.lines().collect();
     for command in COMMANDS {
@@ -29,7 +29,7 @@ fn help() {
     }
     assert!(lines.iter().all(|line| line.len() <= 80), "{}", found.out);
     for words in [&[][..], &["--help"], &["help", "run"], &["run", "--help"]] {
-        expect_out(place.cesca(words), &found.out);
+        expect_out(sandbox.cesca(words), &found.out);
     }
 }
 
