@@ -104,7 +104,7 @@ fn a_routine_that_is_not_in_the_list() {
     let sandbox = Sandbox::new("sheet-unlisted").with_listing("mine.bin", text);
     let out = "\
 routine 0 at 0 need 0
-refused 5 at 3: address 3 names routine 63, and there is 1
+refused 5 at 3: address 3 names routine 63, and the list has 1 routine
 
  at  routine  depth       V  instruction
   0        0      0       -  hlt
