@@ -1,6 +1,8 @@
 //! `cesca file`.
 
 use crate::sandbox::{expect_err, expect_out, stored, Sandbox};
+use std::fs;
+use std::os::unix::fs::symlink;
 
 /// Listing A.
 const A: &str = "\
@@ -62,6 +64,7 @@ fn a_wrong_text_is_told_with_its_line_and_makes_no_file() {
         ("F8 00", "1F8 00", "line 7: byte \"1F8\" is not two hexadecimal digits"),
         ("need 2", "need 300", "line 1: need 300 is over 255"),
         ("7  C100", "4  C100", "line 11: address 4 was given on line 8"),
+        ("3  8000", "9-11  80FE+", "line 7: the depth would run over 255 at address 11"),
         (
             "\n\n",
             "\n; the main part\n",
@@ -70,35 +73,91 @@ fn a_wrong_text_is_told_with_its_line_and_makes_no_file() {
     ] {
         let sandbox = Sandbox::new("file-wrong").with("mine.txt", A.replacen(right, wrong, 1));
         let found = sandbox.cesca(&["file", "mine.txt", "mine.bin"]);
-        expect_err(found, 2, &format!("mine.txt: {told}\n"));
+        expect_err(found, 1, &format!("mine.txt: {told}\n"));
         assert_eq!(sandbox.names(), ["mine.txt"]);
     }
     let sandbox = Sandbox::new("file-kept").with("mine.txt", "").with("mine.bin", "kept");
     let found = sandbox.cesca(&["file", "mine.txt", "mine.bin"]);
-    expect_err(found, 2, "mine.txt: line 1: the text ends without a routine\n");
+    expect_err(found, 1, "mine.txt: line 1: the text ends without a routine\n");
     assert_eq!(sandbox.read("mine.bin"), b"kept");
 }
 
 #[test]
 fn files_that_cannot_be_read_or_written() {
-    let sandbox =
-        Sandbox::new("file-missing").with("mine.txt", A).with("bytes.txt", b"routine \xFF");
+    let sandbox = Sandbox::new("file-missing").with("mine.txt", A);
     let missing = "none.txt: No such file or directory\n";
     expect_err(sandbox.cesca(&["file", "none.txt", "mine.bin"]), 2, missing);
     let missing = "none/mine.bin: No such file or directory\n";
     expect_err(sandbox.cesca(&["file", "mine.txt", "none/mine.bin"]), 2, missing);
-    let bytes = "bytes.txt: stream did not contain valid UTF-8\n";
-    expect_err(sandbox.cesca(&["file", "bytes.txt", "mine.bin"]), 2, bytes);
-    expect_err(sandbox.cesca(&["file", "mine.txt", "."]), 2, ".: Is a directory\n");
-    assert_eq!(sandbox.names(), ["bytes.txt", "mine.txt"]);
+    let directory = ".: Is a directory\n";
+    expect_err(sandbox.cesca(&["file", ".", "mine.bin"]), 2, directory);
+    expect_err(sandbox.cesca(&["file", "mine.txt", "."]), 2, directory);
+    assert_eq!(sandbox.names(), ["mine.txt"]);
+}
+
+#[test]
+fn a_text_that_is_not_utf_8_is_told_with_its_line() {
+    let halt = A.find("hlt").expect("line 7");
+    let (before, behind) = A.as_bytes().split_at(halt);
+    for (bytes, line) in [
+        (&[before, b"\xFF", behind].concat()[..], 7),
+        (b"\xFF\n\xFF\n", 1),
+        (b"routine 0 at 0 need 0\r\n\r\n\x80", 3),
+        // The first of two bytes, without the second.
+        (b"routine 0 at 0 need 0\n\xC3", 2),
+        (b"routine 0 at 0 need 0\n\xC3\n", 2),
+    ] {
+        let sandbox = Sandbox::new("file-bytes").with("mine.txt", bytes);
+        let told = format!("mine.txt: line {line}: not UTF-8\n");
+        expect_err(sandbox.cesca(&["file", "mine.txt", "mine.bin"]), 1, &told);
+        assert_eq!(sandbox.names(), ["mine.txt"]);
+    }
+}
+
+#[test]
+fn the_longest_text_and_longer_ones() {
+    let longest = format!("{A}{}", " ".repeat(1_048_576 - A.len()));
+    let sandbox = Sandbox::new("file-long").with("mine.txt", &longest);
+    expect_out(sandbox.cesca(&["file", "mine.txt", "mine.bin"]), "");
+    assert!(sandbox.read("mine.bin") == stored("a.bin"));
+    let sandbox = sandbox.with("mine.txt", longest + " ");
+    for text in ["mine.txt", "/dev/zero"] {
+        let told = format!("{text}: over 1,048,576 bytes, too long for a listing\n");
+        expect_err(sandbox.cesca(&["file", text, "made.bin"]), 2, &told);
+    }
+    assert_eq!(sandbox.names(), ["mine.bin", "mine.txt"]);
 }
 
 #[test]
 fn a_text_is_not_replaced_by_its_file() {
     let sandbox = Sandbox::new("file-same").with("mine.txt", A);
-    for (text, file) in [("mine.txt", "mine.txt"), ("./mine.txt", "mine.txt")] {
-        let told = "mine.txt: the listing's file would replace its text\n";
-        expect_err(sandbox.cesca(&["file", text, file]), 2, told);
+    fs::hard_link(sandbox.path("mine.txt"), sandbox.path("hard")).expect("a link");
+    symlink("mine.txt", sandbox.path("soft")).expect("a link");
+    for (text, file) in [
+        ("mine.txt", "mine.txt"),
+        ("./mine.txt", "mine.txt"),
+        ("mine.txt", "hard"),
+        ("hard", "mine.txt"),
+        ("mine.txt", "soft"),
+        ("soft", "mine.txt"),
+        ("soft", "hard"),
+    ] {
+        let told = format!("{file}: the listing's file would replace its text\n");
+        expect_err(sandbox.cesca(&["file", text, file]), 2, &told);
         assert_eq!(sandbox.read("mine.txt"), A.as_bytes());
     }
+}
+
+#[test]
+fn links_to_other_files_are_written() {
+    let sandbox = Sandbox::new("file-links").with("mine.txt", A).with("mine.bin", "").with("-", A);
+    symlink("mine.bin", sandbox.path("there")).expect("a link");
+    symlink("made.bin", sandbox.path("not-yet")).expect("a link");
+    for (link, file) in [("there", "mine.bin"), ("not-yet", "made.bin")] {
+        expect_out(sandbox.cesca(&["file", "mine.txt", link]), "");
+        assert!(sandbox.read(file) == stored("a.bin"));
+    }
+    // Standard input is not the file that is named so.
+    expect_out(sandbox.cesca_given(&["file", "-", "./-"], A), "");
+    assert!(sandbox.read("-") == stored("a.bin"));
 }
