@@ -32,13 +32,15 @@ pub fn main(words: &[OsString]) -> ExitCode {
 
 /// Does what the words ask.
 fn dispatch(console: &mut Console, words: &[OsString]) -> Result<(), Failure> {
-    let Some((name, rest)) = words.split_first() else { return help::help(console) };
+    let wrong = |reason| Failure::Usage { reason, usage: help::usage() };
+    let Some((name, rest)) = words.split_first() else {
+        return Err(wrong("a command is missing".to_string()));
+    };
     if name == "help" || words.iter().any(|word| word == "--help") {
         return help::help(console);
     }
     let Some(command) = COMMANDS.iter().find(|command| name == command.name) else {
-        let reason = format!("there is no command {}", name.display());
-        return Err(Failure::Usage { reason, usage: help::usage() });
+        return Err(wrong(format!("there is no command {}", name.display())));
     };
     let options = Options::parse(rest, command);
     let options = options.map_err(|reason| Failure::Usage { reason, usage: command.usage() })?;

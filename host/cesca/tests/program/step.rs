@@ -1,6 +1,7 @@
 //! `cesca step`.
 
-use crate::sandbox::{expect_err, expect_out, Ran, Sandbox};
+use crate::sandbox::{expect_err, expect_out, ran, Ran, Sandbox};
+use std::fs::File;
 
 /// The states before each step of listing A.
 const A: [&str; 8] = [
@@ -129,6 +130,23 @@ fn another_line_makes_no_step() {
         err: ["back", "\u{FFFD}", "-1"].map(|line| format!("{line:?} {wrong}")).concat(),
     };
     assert_eq!(found, wanted);
+}
+
+#[test]
+fn a_line_that_is_too_long_ends_it() {
+    let sandbox = Sandbox::new("step-long").with_stored(&["a.bin"]);
+    let wanted = |out: &str| Ran {
+        status: 2,
+        out: out.to_string(),
+        err: "-: a line of over 4,096 bytes is no number of steps\n".to_string(),
+    };
+    let found = sandbox.cesca_given(&["step", "a.bin"], format!("\n{}\n\n", "1".repeat(4_097)));
+    assert_eq!(found, wanted(&A[..2].concat()));
+    let zeros = File::open("/dev/zero").expect("a device");
+    let output = sandbox.command(&["step", "a.bin"]).stdin(zeros).output();
+    assert_eq!(ran(output.expect("the program starts")), wanted(A[0]));
+    let most = format!("{}1\nq\n", "0".repeat(4_095));
+    expect_out(sandbox.cesca_given(&["step", "a.bin"], most), &A[..2].concat());
 }
 
 #[test]

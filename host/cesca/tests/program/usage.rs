@@ -28,9 +28,27 @@ fn help() {
         assert!(lines.contains(&command), "{command}");
     }
     assert!(lines.iter().all(|line| line.len() <= 80), "{}", found.out);
-    for words in [&[][..], &["--help"], &["help", "run"], &["run", "--help"]] {
+    for words in [&["--help"][..], &["help", "run"], &["run", "--help"]] {
         expect_out(sandbox.cesca(words), &found.out);
     }
+}
+
+#[test]
+fn help_tells_limits_and_standard_input() {
+    let help = Sandbox::new("usage-told").cesca(&["help"]).out;
+    let help = help.split_whitespace().collect::<Vec<_>>().join(" ");
+    for told in [
+        "With --hz N, the time at this clock is told; N is whole, 1 to 1,000,000.",
+        "- is standard input (not for `cesca step`, which reads its steps there)",
+        "1 if something was refused, 2 if usage or input was wrong.",
+    ] {
+        assert!(help.contains(told), "{told}");
+    }
+}
+
+#[test]
+fn no_command() {
+    check(&[], "a command is missing", "cesca admit|run|sheet|step|file|help ..");
 }
 
 #[test]
