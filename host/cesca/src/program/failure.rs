@@ -20,7 +20,7 @@ pub enum Status {
 pub enum Failure {
     /// It is asked for something that there isn't.
     Usage { reason: String, usage: String },
-    /// A file can't be read or written, or can't be what it is named as.
+    /// A file can't be read or written, or isn't what it should be.
     File(String),
     /// A listing, its text or a call is refused.
     Refused(String),
