@@ -1,6 +1,7 @@
 //! Links the proved library: `libboundary.a`, `libruns.a` and `libadmission.a`.
 //!
-//! They are looked for in `../../target/staticlib`, or in the directory that `CESCA_LIB` names.
+//! They are looked for in `../../target/staticlib`, or in the directory that `CESCA_LIB` names. A
+//! relative one is taken from this package's directory, `host/cesca`.
 
 use std::env;
 use std::path::{Path, PathBuf};
@@ -23,7 +24,7 @@ fn link(directory: &Path, name: &str) {
     println!("cargo:rerun-if-changed={}", archive.display());
     assert!(
         archive.is_file(),
-        "{} is missing: run `rt staticlib {name}` first, \
+        "{} is missing: run `bash host/build` (or `rt staticlib {name}`) first, \
          or name the archives' directory in CESCA_LIB",
         archive.display()
     );

@@ -39,16 +39,23 @@ impl Board {
     }
 
     /// The same board with an empty roll of so many words.
+    ///
+    /// A roll that has stopped a run as full stops each further one after 0 steps; with an empty
+    /// one in mid-run, the run goes on where it stopped.
     pub fn with_roll(self, words: usize) -> Board {
         Board { roll: vec![0; words], words: 0, ..self }
     }
 
     /// What a run of at most `budget` steps from the state reached reports, or why there is none.
     ///
-    /// The words that it writes stand in the roll behind those written before. The state has a
-    /// position in the keys, so a run that goes on is given the keys of the run before, or those
-    /// and more. A refusal changes nothing: 18 where the position is past the end of the keys, 19
-    /// where the budget is over [`MOST_STEPS`](crate::MOST_STEPS).
+    /// The words that it writes stand in the roll behind those written before. An instruction that
+    /// would write to a full roll stops the run with [`Full`](crate::Stop::Full), and each further
+    /// run with a budget above 0 stops so after 0 steps: [`with_roll`](Board::with_roll) gives an
+    /// empty roll in mid-run, and [`reset`](Board::reset) empties it too.
+    ///
+    /// The state has a position in the keys, so a run that goes on is given the keys of the run
+    /// before, or those and more. A refusal changes nothing: 18 where the position is past the end
+    /// of the keys, 19 where the budget is over [`MOST_STEPS`](crate::MOST_STEPS).
     pub fn run(&mut self, keys: &[u8], budget: u32) -> Result<Report, Refusal> {
         let lent = Lent {
             opcodes: &self.opcodes,
@@ -98,5 +105,39 @@ impl Board {
     /// The words written to the roll since the last reset: a byte for data, 256 more for a command.
     pub fn roll(&self) -> &[u16] {
         &self.roll[..self.words]
+    }
+}
+
+#[cfg(test)]
+mod tests {
+    use super::*;
+    use crate::samples::a;
+    use cesca_types::Stop;
+
+    /// The stop and the steps of a run without keys.
+    fn run(board: &mut Board, budget: u32) -> (Stop, u32) {
+        let report = board.run(&[], budget).expect("nothing to refuse");
+        (report.stop, report.steps)
+    }
+
+    #[test]
+    fn a_full_roll_stops_each_run_until_it_is_empty() {
+        // mov LCD, 65; jmp 0
+        let listing = a().word(0, [0xE4, 0x41]).word(1, [0xA0, 0x00]).listing();
+        let mut board = Board::new(&listing).with_roll(2);
+        assert_eq!(run(&mut board, 100), (Stop::Full, 4));
+        let full = board.clone();
+        for (budget, stop) in [(100, Stop::Full), (1, Stop::Full), (0, Stop::Spent)] {
+            assert_eq!(run(&mut board, budget), (stop, 0));
+            assert_eq!(board, full);
+        }
+        let mut board = board.with_roll(1);
+        assert_eq!((board.state(), board.roll()), (full.state(), &[][..]));
+        assert_eq!(run(&mut board, 100), (Stop::Full, 2));
+        assert_eq!(board.roll(), [65]);
+        board.reset();
+        assert_eq!(board.roll(), []);
+        assert_eq!(run(&mut board, 100), (Stop::Full, 2));
+        assert_eq!(board.roll(), [65]);
     }
 }

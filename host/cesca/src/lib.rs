@@ -16,9 +16,9 @@
 //! }
 //! ```
 //!
-//! A listing written as text is read by [`Listing::from_text`], and [`instruction_text`] spells an
-//! instruction. A [`Refusal`] has a number, a place and words for both. Listing A of the scope paper is
-//! admitted, and it isn't with a need of 1 for routine 0:
+//! A listing written as text is read by [`Listing::from_text`], and a text that is no listing gives
+//! a [`TextError`]; [`instruction_text`] spells an instruction. A [`Refusal`] has a number, a place
+//! and words. Listing A of the scope paper is admitted, and it isn't with a need of 1 for routine 0:
 //!
 //! ```
 //! # fn main() -> Result<(), Box<dyn std::error::Error>> {
@@ -50,8 +50,8 @@
 //! # }
 //! ```
 //!
-//! Who keeps buffers of one's own calls [`admit`] and [`run`] on them, and [`decode`], [`encode`]
-//! and [`put`] on single instructions:
+//! If you keep your own buffers, call [`admit`] and [`run`] on them, and [`decode`], [`encode`] and
+//! [`put`] on single instructions:
 //!
 //! ```
 //! use cesca::{Lent, State, Stop};

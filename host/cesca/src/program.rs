@@ -26,19 +26,21 @@ use std::process::ExitCode;
 /// Does what the words behind the program's name ask, and yields the status.
 pub fn main(words: &[OsString]) -> ExitCode {
     let mut console = Console::new();
-    let outcome = obey(&mut console, words);
+    let outcome = dispatch(&mut console, words);
     console.end(outcome)
 }
 
 /// Does what the words ask.
-fn obey(console: &mut Console, words: &[OsString]) -> Result<(), Failure> {
-    let Some((name, rest)) = words.split_first() else { return help::help(console) };
+fn dispatch(console: &mut Console, words: &[OsString]) -> Result<(), Failure> {
+    let wrong = |reason| Failure::Usage { reason, usage: help::usage() };
+    let Some((name, rest)) = words.split_first() else {
+        return Err(wrong("a command is missing".to_string()));
+    };
     if name == "help" || words.iter().any(|word| word == "--help") {
         return help::help(console);
     }
     let Some(command) = COMMANDS.iter().find(|command| name == command.name) else {
-        let reason = format!("there is no command {}", name.display());
-        return Err(Failure::Usage { reason, usage: help::usage() });
+        return Err(wrong(format!("there is no command {}", name.display())));
     };
     let options = Options::parse(rest, command);
     let options = options.map_err(|reason| Failure::Usage { reason, usage: command.usage() })?;

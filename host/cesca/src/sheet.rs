@@ -48,7 +48,7 @@ impl From<SheetWord> for u16 {
 pub struct Routine {
     /// The address where it begins.
     pub entry: u8,
-    /// The most bytes that it and its callees put above its return address.
+    /// The most bytes that it and its callees put above its return address, as the list states.
     pub need: u8,
 }
 

@@ -34,6 +34,9 @@ const WORDS: [&str; 23] = [
 ];
 
 /// Why a listing or a call is refused, shown as `15 at 1: ..` or, for a call, as `19: ..`.
+///
+/// `==` compares the words too, so compare [`number`](Refusal::number) and
+/// [`place`](Refusal::place) where what is wrong matters and not how it is put.
 #[derive(Clone, Debug, PartialEq, Eq)]
 pub struct Refusal {
     number: u8,
@@ -111,6 +114,7 @@ mod tests {
         let shown = "15 at 1: the call needs 2 bytes where routine 0 has 1 left";
         assert_eq!(told.to_string(), shown);
         assert_eq!((told.number(), told.place()), (15, Some(1)));
+        assert_ne!(told, Refusal::of_listing(15, 1));
         assert_eq!(Refusal::of_listing(3, 0).place(), Some(0));
     }
 

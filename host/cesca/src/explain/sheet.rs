@@ -14,9 +14,10 @@ pub fn blank(listing: &Listing, at: u8) -> Option<String> {
 pub fn no_routine(listing: &Listing, at: u8) -> Option<String> {
     let (word, routines) = (listing.sheet_word(at), listing.routines().len());
     let routine = word.routine;
-    let there = if routines == 1 { "there is" } else { "there are" };
-    (word.described && usize::from(routine) >= routines)
-        .then(|| format!("address {at} names routine {routine}, and {there} {routines}"))
+    let plural = if routines == 1 { "" } else { "s" };
+    (word.described && usize::from(routine) >= routines).then(|| {
+        format!("address {at} names routine {routine}, and the list has {routines} routine{plural}")
+    })
 }
 
 /// 6: the beginning of routine 0.

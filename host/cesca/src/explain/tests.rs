@@ -24,8 +24,9 @@ fn words_without_a_description() {
 
 #[test]
 fn routines_that_are_not_there() {
-    check(a().sheet(3, 0x8700), "5 at 3: address 3 names routine 7, and there are 2");
-    check(a().list(&[0, 2]), "5 at 4: address 4 names routine 1, and there is 1");
+    let two = "5 at 3: address 3 names routine 7, and the list has 2 routines";
+    check(a().sheet(3, 0x8700), two);
+    check(a().list(&[0, 2]), "5 at 4: address 4 names routine 1, and the list has 1 routine");
 }
 
 #[test]

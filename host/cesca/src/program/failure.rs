@@ -1,6 +1,6 @@
 //! What can keep the program from doing what it is asked.
 
-use cesca::Refusal;
+use cesca::{Refusal, TextError};
 use std::ffi::OsStr;
 use std::fmt::{self, Display, Formatter};
 use std::io::{self, ErrorKind};
@@ -10,7 +10,7 @@ use std::io::{self, ErrorKind};
 pub enum Status {
     /// All went well.
     Good = 0,
-    /// A listing or a call was refused.
+    /// A listing, its text or a call was refused.
     Refused = 1,
     /// Usage or input is wrong.
     Wrong = 2,
@@ -22,7 +22,7 @@ pub enum Failure {
     Usage { reason: String, usage: String },
     /// A file can't be read or written, or isn't what it should be.
     File(String),
-    /// A listing or a call is refused.
+    /// A listing, its text or a call is refused.
     Refused(String),
     /// Standard output can't be written.
     Output(io::Error),
@@ -37,6 +37,11 @@ impl Failure {
     /// The refusal of a file's listing, or of a call for it.
     pub fn of_refusal(name: &OsStr, refusal: &Refusal) -> Failure {
         Failure::Refused(format!("{}: refused {refusal}", name.display()))
+    }
+
+    /// The refusal of a file's text.
+    pub fn of_text(name: &OsStr, error: &TextError) -> Failure {
+        Failure::Refused(format!("{}: {error}", name.display()))
     }
 
     /// The status with which the program ends; a closed pipe leaves it as it was.

@@ -8,6 +8,7 @@ use cesca::Listing;
 use std::ffi::OsStr;
 use std::fs;
 use std::io::Write;
+use std::os::unix::fs::MetadataExt;
 
 /// Writes the file of the listing that a text describes.
 pub fn file(console: &mut Console, options: &Options) -> Result<(), Failure> {
@@ -17,8 +18,7 @@ pub fn file(console: &mut Console, options: &Options) -> Result<(), Failure> {
         return Err(Failure::File(format!("{}: {reason}", file.display())));
     }
     let listing = Listing::from_text(&input::text(text)?);
-    let wrong = |error| Failure::File(format!("{}: {error}", text.display()));
-    let bytes = listing.map_err(wrong)?.to_bytes();
+    let bytes = listing.map_err(|error| Failure::of_text(text, &error))?.to_bytes();
     if file == input::STANDARD {
         console.write_all(&bytes)?;
         return Ok(());
@@ -26,8 +26,17 @@ pub fn file(console: &mut Console, options: &Options) -> Result<(), Failure> {
     fs::write(file, bytes).map_err(|error| Failure::of_file(file, &error))
 }
 
-/// Whether two names are of the same file, which is there.
+/// Whether two names are of the same file, which is there: by their paths or by links.
 fn same(one: &OsStr, other: &OsStr) -> bool {
-    let [one, other] = [one, other].map(|name| fs::canonicalize(name).ok());
+    let [one, other] = [one, other].map(identity);
     one.is_some() && one == other
+}
+
+/// The device and the inode of a file that is there; links are followed.
+fn identity(name: &OsStr) -> Option<(u64, u64)> {
+    // Standard input and output are no files by their name.
+    if name == input::STANDARD {
+        return None;
+    }
+    fs::metadata(name).ok().map(|metadata| (metadata.dev(), metadata.ino()))
 }

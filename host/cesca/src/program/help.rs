@@ -7,9 +7,9 @@ use std::io::Write;
 
 /// What FILE and TEXT are, and what the status tells.
 const NOTES: &str = "
-FILE is a listing as the desk reads it, TEXT one as in listings/README.md. - is
-standard input, but not for `cesca step`, which it tells how to go on; it is
-standard output for the FILE that `cesca file` makes.
+FILE is a listing as the desk reads it, TEXT one as in listings/README.md.
+- is standard input (not for `cesca step`, which reads its steps there); for the
+FILE that `cesca file` makes, it is standard output.
 
 The status is 0 if all went well, 1 if something was refused, 2 if usage or
 input was wrong.";

@@ -1,26 +1,31 @@
 //! The files that the program reads.
 
 use super::failure::Failure;
-use cesca::{Admitted, Listing, Refusal, MOST_READ};
+use cesca::{Admitted, Listing, Refusal, TextError, MOST_READ};
 use std::ffi::OsStr;
 use std::fs::File;
 use std::io::{self, Read};
+use std::string::FromUtf8Error;
 
 /// The name of standard input.
 pub const STANDARD: &str = "-";
 
+/// The most bytes of a listing's text.
+const MOST_TEXT: usize = 1_048_576;
+
 /// The bytes of a listing's file, as many as the desk reads.
 pub fn bytes(name: &OsStr) -> Result<Vec<u8>, Failure> {
-    let mut bytes = Vec::new();
-    let read = open(name).and_then(|file| file.take(MOST_READ as u64).read_to_end(&mut bytes));
-    read.map(|_| bytes).map_err(|error| Failure::of_file(name, &error))
+    read(name, MOST_READ)
 }
 
-/// The text of a file.
+/// The text of a file, if it isn't too long and is UTF-8.
 pub fn text(name: &OsStr) -> Result<String, Failure> {
-    let mut text = String::new();
-    let read = open(name).and_then(|mut file| file.read_to_string(&mut text));
-    read.map(|_| text).map_err(|error| Failure::of_file(name, &error))
+    let bytes = read(name, MOST_TEXT + 1)?;
+    if bytes.len() > MOST_TEXT {
+        let reason = "over 1,048,576 bytes, too long for a listing";
+        return Err(Failure::File(format!("{}: {reason}", name.display())));
+    }
+    String::from_utf8(bytes).map_err(|error| Failure::of_text(name, &not_utf8(&error)))
 }
 
 /// The listing in a file of these bytes, or the refusal of its length.
@@ -38,6 +43,20 @@ pub fn listing(bytes: &[u8]) -> Result<Listing, Refusal> {
 pub fn admitted(name: &OsStr) -> Result<Admitted, Failure> {
     let admitted = listing(&bytes(name)?).and_then(|listing| listing.admit());
     admitted.map_err(|refusal| Failure::of_refusal(name, &refusal))
+}
+
+/// The first line that isn't UTF-8.
+fn not_utf8(error: &FromUtf8Error) -> TextError {
+    let before = &error.as_bytes()[..error.utf8_error().valid_up_to()];
+    let line = 1 + before.iter().filter(|byte| **byte == b'\n').count();
+    TextError { line, reason: "not UTF-8".to_string() }
+}
+
+/// The bytes of a file, so many at most.
+fn read(name: &OsStr, most: usize) -> Result<Vec<u8>, Failure> {
+    let mut bytes = Vec::new();
+    let read = open(name).and_then(|file| file.take(most as u64).read_to_end(&mut bytes));
+    read.map(|_| bytes).map_err(|error| Failure::of_file(name, &error))
 }
 
 /// A file, or standard input, to read from.

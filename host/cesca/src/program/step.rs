@@ -1,16 +1,16 @@
 //! `cesca step`: a run step by step.
 
+mod request;
 mod session;
-mod wish;
 
 use super::console::Console;
 use super::failure::Failure;
 use super::input;
 use super::options::Options;
+use request::StepRequest;
 use session::Session;
 use std::ffi::OsStr;
 use std::io::{self, Write};
-use wish::Wish;
 
 /// Shows the state before each step of a run of the admitted listing in a file, as many steps as
 /// standard input asks for, and the stop if the run comes to it.
@@ -26,13 +26,13 @@ pub fn step(console: &mut Console, options: &Options) -> Result<(), Failure> {
     loop {
         session.show(console)?;
         console.flush()?;
-        let wish = Wish::read(&mut input);
-        match wish.map_err(|error| Failure::of_file(OsStr::new(input::STANDARD), &error))? {
-            Wish::End => return Ok(()),
-            Wish::Unknown(line) => console.tell(&Failure::File(format!(
+        let request = StepRequest::read(&mut input);
+        match request.map_err(|error| Failure::of_file(OsStr::new(input::STANDARD), &error))? {
+            StepRequest::Quit => return Ok(()),
+            StepRequest::Unknown(line) => console.tell(&Failure::File(format!(
                 "{line:?} is no number of steps: an empty line makes one, q ends"
             ))),
-            Wish::Steps(number) => {
+            StepRequest::Steps(number) => {
                 if let Some(stop) = session.steps(console, name, number)? {
                     writeln!(console, "stop: {stop}")?;
                     return Ok(());

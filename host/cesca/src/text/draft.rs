@@ -21,7 +21,7 @@ impl Listing {
     ///
     /// A line is `routine 1 at 4 need 1`, or an address with its sheet word, its two bytes and the
     /// instruction that they stand for: `0 8000 30 05 mov R0, 5`. `0-254 8000+ 5C 00 push R0` is a
-    /// line for each of these addresses, the sheet word one higher at each. Routines come in their
+    /// line for each of these addresses, the depth one higher at each. Routines come in their
     /// order, and addresses without a line are 0 throughout.
     pub fn from_text(text: &str) -> Result<Listing, TextError> {
         let mut draft = Draft::blank();

@@ -57,13 +57,15 @@ fn range(addresses: &str) -> Result<RangeInclusive<u8>, String> {
     Ok(first..=last)
 }
 
-/// Each address with its sheet word, which is one higher at each if there is a +.
+/// Each address with its sheet word, whose depth is one higher at each if there is a +.
 fn sheet_words(addresses: RangeInclusive<u8>, sheet: &str) -> Result<Vec<(u8, u16)>, String> {
     let (digits, rise) = sheet.strip_suffix('+').map_or((sheet, 0), |digits| (digits, 1));
-    let first = sheet_word(digits)?;
-    let words = (0..).zip(addresses).map(|(number, at)| {
-        let word = first.checked_add(rise * number).map(|word| (at, word));
-        word.ok_or_else(|| format!("sheet word {sheet} would run over FFFF at address {at}"))
+    let [high, lowest] = sheet_word(digits)?.to_be_bytes();
+    let first = *addresses.start();
+    let words = addresses.map(|at| {
+        let depth = lowest.checked_add(rise * (at - first));
+        let word = depth.map(|depth| (at, u16::from_be_bytes([high, depth])));
+        word.ok_or_else(|| format!("the depth would run over 255 at address {at}"))
     });
     words.collect()
 }

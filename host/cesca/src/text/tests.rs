@@ -2,7 +2,7 @@
 
 use super::TextError;
 use crate::samples::a;
-use crate::Listing;
+use crate::{Listing, SheetWord};
 use std::error::Error;
 
 /// The lines of listing A.
@@ -61,7 +61,7 @@ fn layout_is_free() {
 #[test]
 fn a_line_for_many_addresses() {
     let text = format!(
-        "{ROUTINE}\n3-5 80FE+ 5C 00 push R0\n254-255 C007 FC 00 nop\n9-9 FFFF+ 00 00 mov R0, R0"
+        "{ROUTINE}\n3-5 80FD+ 5C 00 push R0\n254-255 C007 FC 00 nop\n9-9 FFFF+ 00 00 mov R0, R0"
     );
     let file = Listing::from_text(&text).expect("a listing").to_bytes();
     let (opcodes, rest) = file.split_at(256);
@@ -70,7 +70,7 @@ fn a_line_for_many_addresses() {
     assert_eq!(opcodes[2..7], [0, 0x5C, 0x5C, 0x5C, 0]);
     assert_eq!(opcodes[253..], [0, 0xFC, 0xFC]);
     assert!(arguments.iter().all(|argument| *argument == 0));
-    assert_eq!(sheet[4..14], [0, 0, 0xFE, 0x80, 0xFF, 0x80, 0x00, 0x81, 0, 0]);
+    assert_eq!(sheet[4..14], [0, 0, 0xFD, 0x80, 0xFE, 0x80, 0xFF, 0x80, 0, 0]);
     assert_eq!(sheet[16..20], [0, 0, 0xFF, 0xFF]);
     assert_eq!(sheet[506..], [0, 0, 0x07, 0xC0, 0x07, 0xC0]);
     assert_eq!(list, [0, 0]);
@@ -155,9 +155,23 @@ fn addresses_given_twice() {
 }
 
 #[test]
-fn sheet_words_that_run_over() {
-    check_line("0-2 FFFE+ 00 00 mov R0, R0", "sheet word FFFE+ would run over FFFF at address 2");
-    check_line("7-255 FFFF+ 00 00 mov R0, R0", "sheet word FFFF+ would run over FFFF at address 8");
+fn depths_that_rise_to_255() {
+    let text = format!("{ROUTINE}\n0-255 8000+ 5C 00 push R0");
+    let listing = Listing::from_text(&text).expect("a listing");
+    for at in 0..=255 {
+        let word = SheetWord { described: true, settled: false, routine: 0, depth: at };
+        assert_eq!(listing.sheet_word(at), word);
+    }
+}
+
+#[test]
+fn depths_that_would_run_over_255() {
+    let wrong = |at: u8| format!("the depth would run over 255 at address {at}");
+    check_line("0-2 80FE+ 5C 00 push R0", &wrong(2));
+    check_line("0-255 8001+ 5C 00 push R0", &wrong(255));
+    check_line("9-10 BFFF+ 5C 00 push R0", &wrong(10));
+    check_line("0-2 FFFE+ 00 00 mov R0, R0", &wrong(2));
+    check_line("7-255 FFFF+ 00 00 mov R0, R0", &wrong(8));
 }
 
 #[test]

@@ -1,6 +1,6 @@
 //! `cesca admit`.
 
-use crate::place::{expect_err, expect_out, stored, Place, Ran};
+use crate::sandbox::{expect_err, expect_out, stored, Ran, Sandbox};
 
 /// The stored listings and what is said of each.
 const STORED: [(&str, &str); 15] = [
@@ -27,33 +27,33 @@ const STORED: [(&str, &str); 15] = [
 #[test]
 fn a_line_for_each_file() {
     let names = STORED.map(|(name, _)| name);
-    let place = Place::new("admit-stored").with_stored(&names);
+    let sandbox = Sandbox::new("admit-stored").with_stored(&names);
     let words = [&["admit"], &names[..]].concat();
     let out = STORED.map(|(name, answer)| format!("{name}: {answer}\n")).concat();
-    assert_eq!(place.cesca(&words), Ran { status: 1, out, err: String::new() });
+    assert_eq!(sandbox.cesca(&words), Ran { status: 1, out, err: String::new() });
 }
 
 #[test]
 fn the_status_of_each_file() {
-    let place = Place::new("admit-status").with_stored(&STORED.map(|(name, _)| name));
+    let sandbox = Sandbox::new("admit-status").with_stored(&STORED.map(|(name, _)| name));
     for (name, answer) in STORED {
         let status = i32::from(answer.starts_with("refused"));
         let out = format!("{name}: {answer}\n");
-        assert_eq!(place.cesca(&["admit", name]), Ran { status, out, err: String::new() });
+        assert_eq!(sandbox.cesca(&["admit", name]), Ran { status, out, err: String::new() });
     }
 }
 
 #[test]
 fn admitted_ones_alone_are_good() {
-    let place = Place::new("admit-good").with_stored(&["a.bin", "max.bin"]);
+    let sandbox = Sandbox::new("admit-good").with_stored(&["a.bin", "max.bin"]);
     let out = "a.bin: admitted need 2\nmax.bin: admitted need 1\na.bin: admitted need 2\n";
-    expect_out(place.cesca(&["admit", "a.bin", "max.bin", "a.bin"]), out);
+    expect_out(sandbox.cesca(&["admit", "a.bin", "max.bin", "a.bin"]), out);
 }
 
 #[test]
 fn files_that_cannot_be_read_are_named_and_the_others_told() {
-    let place = Place::new("admit-missing").with_stored(&["a.bin", "growing.bin"]);
-    let found = place.cesca(&["admit", "mine.bin", "growing.bin", ".", "a.bin"]);
+    let sandbox = Sandbox::new("admit-missing").with_stored(&["a.bin", "growing.bin"]);
+    let found = sandbox.cesca(&["admit", "mine.bin", "growing.bin", ".", "a.bin"]);
     let growing = "refused 16 at 1: jmp leads to address 0, which is at depth 0 where 1 is due";
     let wanted = Ran {
         status: 2,
@@ -88,8 +88,8 @@ fn lengths_that_no_listing_has() {
         (1154, long()),
         (100_000, long()),
     ] {
-        let place = Place::new("admit-lengths").with("mine.bin", vec![0; length]);
-        let found = place.cesca(&["admit", "mine.bin"]);
+        let sandbox = Sandbox::new("admit-lengths").with("mine.bin", vec![0; length]);
+        let found = sandbox.cesca(&["admit", "mine.bin"]);
         let out = format!("mine.bin: refused {refusal}\n");
         assert_eq!(found, Ran { status: 1, out, err: String::new() }, "{length} bytes");
     }
@@ -97,16 +97,16 @@ fn lengths_that_no_listing_has() {
 
 #[test]
 fn standard_input() {
-    let place = Place::new("admit-standard-input").with_stored(&["max.bin"]);
+    let sandbox = Sandbox::new("admit-standard-input").with_stored(&["max.bin"]);
     let out = "-: admitted need 2\nmax.bin: admitted need 1\n";
-    expect_out(place.cesca_given(&["admit", "-", "max.bin"], stored("a.bin")), out);
+    expect_out(sandbox.cesca_given(&["admit", "-", "max.bin"], stored("a.bin")), out);
 }
 
 #[test]
 fn input_without_an_end_is_not_read_to_its_end() {
-    let place = Place::new("admit-endless");
+    let sandbox = Sandbox::new("admit-endless");
     let out = "/dev/zero: refused 3 at 0: the routine list has more than 128 bytes\n".to_string();
-    let found = place.cesca(&["admit", "/dev/zero"]);
+    let found = sandbox.cesca(&["admit", "/dev/zero"]);
     assert_eq!(found, Ran { status: 1, out, err: String::new() });
 }
 
@@ -116,7 +116,7 @@ fn names_that_are_no_text() {
     use std::ffi::OsStr;
     use std::os::unix::ffi::OsStrExt;
 
-    let place = Place::new("admit-names");
+    let sandbox = Sandbox::new("admit-names");
     let words = [OsStr::new("admit"), OsStr::from_bytes(b"m\xFFne.bin")];
-    expect_err(place.cesca(&words), 2, "m\u{FFFD}ne.bin: No such file or directory\n");
+    expect_err(sandbox.cesca(&words), 2, "m\u{FFFD}ne.bin: No such file or directory\n");
 }

@@ -4,9 +4,9 @@
 mod admit;
 mod file;
 mod pipes;
-mod place;
 mod readme;
 mod run;
+mod sandbox;
 mod sheet;
 mod step;
 mod untouched;

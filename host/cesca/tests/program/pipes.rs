@@ -1,6 +1,6 @@
 //! Outputs that nobody reads, and outputs that can't be written.
 
-use crate::place::{expect_err, ran, Place};
+use crate::sandbox::{expect_err, ran, Sandbox};
 use std::fs::OpenOptions;
 use std::io::{self, BufRead, BufReader, Write};
 use std::process::Stdio;
@@ -10,14 +10,14 @@ const ENDLESS: &str = "routine 0 at 0 need 0\n0 8000 A0 00 jmp 0";
 
 /// A directory with a listing that is admitted, one that is refused, one without an end, and a
 /// text.
-fn place(test: &str) -> Place {
-    let place = Place::new(test).with_stored(&["pushes.bin", "masked.bin"]);
-    place.with_listing("endless.bin", ENDLESS).with("mine.txt", ENDLESS)
+fn sandbox(test: &str) -> Sandbox {
+    let sandbox = Sandbox::new(test).with_stored(&["pushes.bin", "masked.bin"]);
+    sandbox.with_listing("endless.bin", ENDLESS).with("mine.txt", ENDLESS)
 }
 
 #[test]
 fn a_closed_pipe_ends_every_command_quietly() {
-    let place = place("pipes-closed");
+    let sandbox = sandbox("pipes-closed");
     for (words, status) in [
         (&["help"][..], 0),
         (&["admit", "pushes.bin", "pushes.bin"], 0),
@@ -29,15 +29,15 @@ fn a_closed_pipe_ends_every_command_quietly() {
     ] {
         let (reader, writer) = io::pipe().expect("a pipe");
         drop(reader);
-        let output = place.command(words).stdout(writer).output().expect("the program starts");
+        let output = sandbox.command(words).stdout(writer).output().expect("the program starts");
         expect_err(ran(output), status, "");
     }
 }
 
 #[test]
 fn a_pipe_that_is_closed_later_ends_steps_without_an_end() {
-    let place = place("pipes-later");
-    let mut command = place.command(&["step", "endless.bin"]);
+    let sandbox = sandbox("pipes-later");
+    let mut command = sandbox.command(&["step", "endless.bin"]);
     command.stdin(Stdio::piped()).stdout(Stdio::piped()).stderr(Stdio::piped());
     let mut child = command.spawn().expect("the program starts");
     let mut input = child.stdin.take().expect("a pipe");
@@ -52,21 +52,21 @@ fn a_pipe_that_is_closed_later_ends_steps_without_an_end() {
 fn what_cannot_be_written_is_told() {
     // There, every write fails.
     let Ok(full) = OpenOptions::new().write(true).open("/dev/full") else { return };
-    let place = place("pipes-full");
+    let sandbox = sandbox("pipes-full");
     for words in [&["help"][..], &["admit", "pushes.bin"], &["sheet", "masked.bin"]] {
         let full = full.try_clone().expect("a file");
-        let output = place.command(words).stdout(full).output().expect("the program starts");
+        let output = sandbox.command(words).stdout(full).output().expect("the program starts");
         expect_err(ran(output), 2, "standard output: No space left on device\n");
     }
 }
 
 #[test]
 fn a_closed_standard_error_does_no_harm() {
-    let place = place("pipes-error");
+    let sandbox = sandbox("pipes-error");
     for words in [&["admit", "none.bin"][..], &["frob"], &["run", "none.bin"]] {
         let (reader, writer) = io::pipe().expect("a pipe");
         drop(reader);
-        let output = place.command(words).stderr(writer).output().expect("the program starts");
+        let output = sandbox.command(words).stderr(writer).output().expect("the program starts");
         expect_err(ran(output), 2, "");
     }
 }

@@ -1,6 +1,6 @@
 //! The sessions of README: what is typed there prints what is shown there.
 
-use crate::place::{ran, Place};
+use crate::sandbox::{ran, Sandbox};
 use std::env;
 use std::fs;
 use std::iter;
@@ -51,12 +51,12 @@ fn root() -> PathBuf {
     Path::new(env!("CARGO_MANIFEST_DIR")).join("../..")
 }
 
-/// What a shell prints at a place, with the program on its path.
-fn printed(place: &Place, typed: &str) -> String {
+/// What a shell prints in a sandbox, with the program on its path.
+fn printed(sandbox: &Sandbox, typed: &str) -> String {
     let program = Path::new(env!("CARGO_BIN_EXE_cesca")).parent().expect("a directory");
     let path = format!("{}:{}", program.display(), env::var("PATH").expect("a path"));
     let mut shell = Command::new("sh");
-    shell.arg("-c").arg(format!("exec 2>&1\n{typed}")).current_dir(place.path(""));
+    shell.arg("-c").arg(format!("exec 2>&1\n{typed}")).current_dir(sandbox.path(""));
     ran(shell.env("PATH", path).output().expect("a shell")).out
 }
 
@@ -65,14 +65,14 @@ fn what_is_typed_prints_what_is_shown() {
     let readme = fs::read_to_string(root().join("README.md")).expect("README");
     let (_, rest) = readme.split_once(SECTION[0]).expect("the section");
     let (section, _) = rest.split_once(SECTION[1]).expect("the section behind it");
-    let place = Place::new("readme");
+    let sandbox = Sandbox::new("readme");
     for name in ["listings", "target"] {
-        symlink(root().join(name), place.path(name)).expect("a link");
+        symlink(root().join(name), sandbox.path(name)).expect("a link");
     }
     let sessions = sessions(section);
     assert!(sessions.len() >= 7, "only {} sessions are seen", sessions.len());
     for (typed, shown) in sessions {
-        assert_eq!(printed(&place, &typed), shown, "{typed}");
+        assert_eq!(printed(&sandbox, &typed), shown, "{typed}");
     }
 }
 

@@ -1,6 +1,6 @@
 //! `cesca sheet`.
 
-use crate::place::{expect_err, expect_out, stored, Place, Ran};
+use crate::sandbox::{expect_err, expect_out, stored, Ran, Sandbox};
 
 /// Fails unless a refused listing's sheet is this.
 fn expect_refused(found: Ran, out: &str) {
@@ -14,7 +14,7 @@ fn heading(width: usize) -> String {
 
 #[test]
 fn listing_a() {
-    let place = Place::new("sheet-a").with_stored(&["a.bin"]);
+    let sandbox = Sandbox::new("sheet-a").with_stored(&["a.bin"]);
     let out = "\
 routine 0 at 0 need 2
 routine 1 at 4 need 1
@@ -30,13 +30,13 @@ admitted need 2
   6        1      1  #  V  pop R2
   7        1      0     V  ret
 ";
-    expect_out(place.cesca(&["sheet", "a.bin"]), out);
-    expect_out(place.cesca_given(&["sheet", "-"], stored("a.bin")), out);
+    expect_out(sandbox.cesca(&["sheet", "a.bin"]), out);
+    expect_out(sandbox.cesca_given(&["sheet", "-"], stored("a.bin")), out);
 }
 
 #[test]
 fn the_address_of_a_refusal_is_marked() {
-    let place = Place::new("sheet-refused").with_stored(&["forgotten-pop.bin", "masked.bin"]);
+    let sandbox = Sandbox::new("sheet-refused").with_stored(&["forgotten-pop.bin", "masked.bin"]);
     let forgotten = "\
 routine 0 at 0 need 2
 routine 1 at 2 need 1
@@ -49,7 +49,7 @@ refused 12 at 4: ret with 1 byte of routine 1 still on the stack
   3        1      1  #  -  mov R2, 9
   4        1      1  #  -  ret <
 ";
-    expect_refused(place.cesca(&["sheet", "forgotten-pop.bin"]), forgotten);
+    expect_refused(sandbox.cesca(&["sheet", "forgotten-pop.bin"]), forgotten);
     let masked = "\
 routine 0 at 0 need 0
 refused 16 at 2: mask leads to address 3, which marks V although V may be unsettled
@@ -62,7 +62,7 @@ refused 16 at 2: mask leads to address 3, which marks V although V may be unsett
   4        0      0    -  hlt
   5        0      0    -  hlt
 ";
-    expect_refused(place.cesca(&["sheet", "masked.bin"]), masked);
+    expect_refused(sandbox.cesca(&["sheet", "masked.bin"]), masked);
 }
 
 #[test]
@@ -70,22 +70,22 @@ fn the_routine_of_a_refusal_is_marked() {
     let start = "routine 0 at 1 need 0\n1 8000 F8 00 hlt";
     let entry = "routine 0 at 0 need 0\nroutine 1 at 7 need 9\nroutine 2 at 0 need 1\n\
                  0 8000 F8 00 hlt";
-    let place = Place::new("sheet-routines");
-    let place = place.with_listing("start.bin", start).with_listing("entry.bin", entry);
+    let sandbox = Sandbox::new("sheet-routines");
+    let sandbox = sandbox.with_listing("start.bin", start).with_listing("entry.bin", entry);
     let line = |at: u8| format!("  {at}        0      0    -  hlt\n");
     let routines = "routine 0 at 1 need 0 <\nrefused 6 at 0: routine 0 begins at 1\n";
     let out = format!("{routines}{}{}", heading(0), line(1));
-    expect_refused(place.cesca(&["sheet", "start.bin"]), &out);
+    expect_refused(sandbox.cesca(&["sheet", "start.bin"]), &out);
     let routines = "routine 0 at 0 need 0\nroutine 1 at 7 need 9 <\nroutine 2 at 0 need 1\n\
                     refused 7 at 1: routine 1 begins at 7, which is not described\n";
     let out = format!("{routines}{}{}", heading(0), line(0));
-    expect_refused(place.cesca(&["sheet", "entry.bin"]), &out);
+    expect_refused(sandbox.cesca(&["sheet", "entry.bin"]), &out);
 }
 
 #[test]
 fn a_marked_address_is_shown_though_not_described() {
     let text = "routine 0 at 0 need 9\n0 8000 F8 00 hlt\n8 8002 F8 00 hlt\n9 4005 30 05 mov R0, 5";
-    let place = Place::new("sheet-undescribed").with_listing("mine.bin", text);
+    let sandbox = Sandbox::new("sheet-undescribed").with_listing("mine.bin", text);
     let out = "\
 routine 0 at 0 need 9
 refused 4 at 9: address 9 is not described, yet its sheet word is 4005
@@ -95,28 +95,28 @@ refused 4 at 9: address 9 is not described, yet its sheet word is 4005
   8        0      2  ##  -  hlt
   9        -      -      -  mov R0, 5 <
 ";
-    expect_refused(place.cesca(&["sheet", "mine.bin"]), out);
+    expect_refused(sandbox.cesca(&["sheet", "mine.bin"]), out);
 }
 
 #[test]
 fn a_routine_that_is_not_in_the_list() {
     let text = "routine 0 at 0 need 0\n0 8000 F8 00 hlt\n3 FF03 F8 00 hlt";
-    let place = Place::new("sheet-unlisted").with_listing("mine.bin", text);
+    let sandbox = Sandbox::new("sheet-unlisted").with_listing("mine.bin", text);
     let out = "\
 routine 0 at 0 need 0
-refused 5 at 3: address 3 names routine 63, and there is 1
+refused 5 at 3: address 3 names routine 63, and the list has 1 routine
 
  at  routine  depth       V  instruction
   0        0      0       -  hlt
   3       63      3  ###  V  hlt <
 ";
-    expect_refused(place.cesca(&["sheet", "mine.bin"]), out);
+    expect_refused(sandbox.cesca(&["sheet", "mine.bin"]), out);
 }
 
 #[test]
 fn deep_stacks() {
-    let place = Place::new("sheet-deep").with_stored(&["pushes.bin"]);
-    let found = place.cesca(&["sheet", "pushes.bin"]);
+    let sandbox = Sandbox::new("sheet-deep").with_stored(&["pushes.bin"]);
+    let found = sandbox.cesca(&["sheet", "pushes.bin"]);
     let lines: Vec<&str> = found.out.lines().collect();
     assert_eq!((found.status, lines.len()), (0, 5 + 256));
     let head = ["routine 0 at 0 need 255", "admitted need 255", "", "a # is 8 bytes"];
@@ -135,8 +135,8 @@ fn deep_stacks() {
 fn the_longest_line_is_below_80_characters() {
     let text = "routine 0 at 0 need 255\n0-254 8000+ 5C 00 push R0\n\
                 255 80FF 20 41 subb NONE, R0, R1";
-    let place = Place::new("sheet-longest").with_listing("mine.bin", text);
-    let found = place.cesca(&["sheet", "mine.bin"]);
+    let sandbox = Sandbox::new("sheet-longest").with_listing("mine.bin", text);
+    let found = sandbox.cesca(&["sheet", "mine.bin"]);
     let line = "255        0    255  ################################  -  subb NONE, R0, R1 <";
     assert_eq!(found.out.lines().last(), Some(line));
     assert!(found.out.lines().all(|line| line.len() < 80));
@@ -146,11 +146,11 @@ fn the_longest_line_is_below_80_characters() {
 
 #[test]
 fn files_that_are_no_listing() {
-    let place =
-        Place::new("sheet-lengths").with("short.bin", [0; 1023]).with("long.bin", [0; 2000]);
+    let sandbox =
+        Sandbox::new("sheet-lengths").with("short.bin", [0; 1023]).with("long.bin", [0; 2000]);
     let short = "refused 2 at 0: the sheet has 511 bytes, not 512\n";
-    expect_refused(place.cesca(&["sheet", "short.bin"]), short);
+    expect_refused(sandbox.cesca(&["sheet", "short.bin"]), short);
     let long = "refused 3 at 0: the routine list has more than 128 bytes\n";
-    expect_refused(place.cesca(&["sheet", "long.bin"]), long);
-    expect_err(place.cesca(&["sheet", "none"]), 2, "none: No such file or directory\n");
+    expect_refused(sandbox.cesca(&["sheet", "long.bin"]), long);
+    expect_err(sandbox.cesca(&["sheet", "none"]), 2, "none: No such file or directory\n");
 }

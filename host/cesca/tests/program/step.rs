@@ -1,6 +1,7 @@
 //! `cesca step`.
 
-use crate::place::{expect_err, expect_out, Place, Ran};
+use crate::sandbox::{expect_err, expect_out, ran, Ran, Sandbox};
+use std::fs::File;
 
 /// The states before each step of listing A.
 const A: [&str; 8] = [
@@ -91,37 +92,37 @@ const KEYS: &str = "
 
 #[test]
 fn an_empty_line_makes_a_step() {
-    let place = Place::new("step-lines").with_stored(&["a.bin"]);
+    let sandbox = Sandbox::new("step-lines").with_stored(&["a.bin"]);
     let out = A.concat() + "stop: halted\n";
-    expect_out(place.cesca_given(&["step", "a.bin"], "\n".repeat(8)), &out);
-    expect_out(place.cesca_given(&["step", "a.bin"], "\n".repeat(100)), &out);
-    expect_out(place.cesca_given(&["step", "a.bin"], "\n\n"), &A[..3].concat());
-    expect_out(place.cesca_given(&["step", "a.bin"], " \r\n"), &A[..2].concat());
+    expect_out(sandbox.cesca_given(&["step", "a.bin"], "\n".repeat(8)), &out);
+    expect_out(sandbox.cesca_given(&["step", "a.bin"], "\n".repeat(100)), &out);
+    expect_out(sandbox.cesca_given(&["step", "a.bin"], "\n\n"), &A[..3].concat());
+    expect_out(sandbox.cesca_given(&["step", "a.bin"], " \r\n"), &A[..2].concat());
 }
 
 #[test]
 fn a_number_makes_that_many() {
-    let place = Place::new("step-numbers").with_stored(&["a.bin"]);
+    let sandbox = Sandbox::new("step-numbers").with_stored(&["a.bin"]);
     let out = A.concat() + "stop: halted\n";
     for input in ["8\n", "1\n\n2\n4\n", "3\n5", "99999999999999999999\n"] {
-        expect_out(place.cesca_given(&["step", "a.bin"], input), &out);
+        expect_out(sandbox.cesca_given(&["step", "a.bin"], input), &out);
     }
-    expect_out(place.cesca_given(&["step", "a.bin"], "7\n"), &A.concat());
-    expect_out(place.cesca_given(&["step", "a.bin"], "0\n"), &[A[0], A[0]].concat());
+    expect_out(sandbox.cesca_given(&["step", "a.bin"], "7\n"), &A.concat());
+    expect_out(sandbox.cesca_given(&["step", "a.bin"], "0\n"), &[A[0], A[0]].concat());
 }
 
 #[test]
 fn q_or_the_end_of_the_input_ends_it() {
-    let place = Place::new("step-end").with_stored(&["a.bin"]);
-    expect_out(place.cesca_given(&["step", "a.bin"], ""), A[0]);
-    expect_out(place.cesca_given(&["step", "a.bin"], "q\n\n\n"), A[0]);
-    expect_out(place.cesca_given(&["step", "a.bin"], "2\nq"), &A[..3].concat());
+    let sandbox = Sandbox::new("step-end").with_stored(&["a.bin"]);
+    expect_out(sandbox.cesca_given(&["step", "a.bin"], ""), A[0]);
+    expect_out(sandbox.cesca_given(&["step", "a.bin"], "q\n\n\n"), A[0]);
+    expect_out(sandbox.cesca_given(&["step", "a.bin"], "2\nq"), &A[..3].concat());
 }
 
 #[test]
 fn another_line_makes_no_step() {
-    let place = Place::new("step-unknown").with_stored(&["a.bin"]);
-    let found = place.cesca_given(&["step", "a.bin"], b"back\n\xFF\n-1\n\n");
+    let sandbox = Sandbox::new("step-unknown").with_stored(&["a.bin"]);
+    let found = sandbox.cesca_given(&["step", "a.bin"], b"back\n\xFF\n-1\n\n");
     let wrong = "is no number of steps: an empty line makes one, q ends\n";
     let wanted = Ran {
         status: 2,
@@ -132,14 +133,31 @@ fn another_line_makes_no_step() {
 }
 
 #[test]
+fn a_line_that_is_too_long_ends_it() {
+    let sandbox = Sandbox::new("step-long").with_stored(&["a.bin"]);
+    let wanted = |out: &str| Ran {
+        status: 2,
+        out: out.to_string(),
+        err: "-: a line of over 4,096 bytes is no number of steps\n".to_string(),
+    };
+    let found = sandbox.cesca_given(&["step", "a.bin"], format!("\n{}\n\n", "1".repeat(4_097)));
+    assert_eq!(found, wanted(&A[..2].concat()));
+    let zeros = File::open("/dev/zero").expect("a device");
+    let output = sandbox.command(&["step", "a.bin"]).stdin(zeros).output();
+    assert_eq!(ran(output.expect("the program starts")), wanted(A[0]));
+    let most = format!("{}1\nq\n", "0".repeat(4_095));
+    expect_out(sandbox.cesca_given(&["step", "a.bin"], most), &A[..2].concat());
+}
+
+#[test]
 fn the_stack_of_calls_in_calls() {
-    let place = Place::new("step-nested").with_stored(&["nested.bin"]);
-    expect_out(place.cesca_given(&["step", "nested.bin"], "6\nq\n"), NESTED);
+    let sandbox = Sandbox::new("step-nested").with_stored(&["nested.bin"]);
+    expect_out(sandbox.cesca_given(&["step", "nested.bin"], "6\nq\n"), NESTED);
 }
 
 #[test]
 fn flags() {
-    let place = Place::new("step-flags").with_listing("flags.bin", FLAGS);
+    let sandbox = Sandbox::new("step-flags").with_listing("flags.bin", FLAGS);
     let out = "\
 0: mov R3, 127
   R0 0  R1 0  R2 0  R3 0  PC 0  SP 255  OUT 0  Z 0  C 0  V -  S 0
@@ -153,12 +171,12 @@ fn flags() {
   R0 0  R1 0  R2 0  R3 0  PC 4  SP 255  OUT 0  Z 1  C 0  V -  S 0
 stop: halted
 ";
-    expect_out(place.cesca_given(&["step", "flags.bin"], "5\n"), out);
+    expect_out(sandbox.cesca_given(&["step", "flags.bin"], "5\n"), out);
 }
 
 #[test]
 fn keys() {
-    let place = Place::new("step-keys").with_listing("keys.bin", KEYS);
+    let sandbox = Sandbox::new("step-keys").with_listing("keys.bin", KEYS);
     let out = "\
 0: mov R2, IN
   R0 0  R1 0  R2 0  R3 0  PC 0  SP 255  OUT 0  Z 0  C 0  V -  S 0
@@ -171,22 +189,22 @@ fn keys() {
 1: mov IN, Ack
   R0 0  R1 0  R2 255  R3 0  PC 1  SP 255  OUT 0  Z 0  C 0  V -  S 0
 ";
-    expect_out(place.cesca_given(&["step", "keys.bin", "--keys", "7,0xFF"], "4\n"), out);
+    expect_out(sandbox.cesca_given(&["step", "keys.bin", "--keys", "7,0xFF"], "4\n"), out);
 }
 
 #[test]
 fn a_refused_listing_is_not_stepped_through() {
-    let place = Place::new("step-refused").with_stored(&["pops-return.bin"]);
+    let sandbox = Sandbox::new("step-refused").with_stored(&["pops-return.bin"]);
     let refused = "refused 11 at 3: pop at depth 0 would take the return address";
-    let found = place.cesca_given(&["step", "pops-return.bin"], "\n");
+    let found = sandbox.cesca_given(&["step", "pops-return.bin"], "\n");
     expect_err(found, 1, &format!("pops-return.bin: {refused}\n"));
 }
 
 #[test]
 fn files_that_cannot_be_read() {
-    let place = Place::new("step-missing").with_stored(&["a.bin"]);
+    let sandbox = Sandbox::new("step-missing").with_stored(&["a.bin"]);
     let missing = "mine.bin: No such file or directory\n";
-    expect_err(place.cesca_given(&["step", "mine.bin"], "\n"), 2, missing);
+    expect_err(sandbox.cesca_given(&["step", "mine.bin"], "\n"), 2, missing);
     let standard = "-: the listing can't be read from standard input, which has the steps\n";
-    expect_err(place.cesca_given(&["step", "-"], "\n"), 2, standard);
+    expect_err(sandbox.cesca_given(&["step", "-"], "\n"), 2, standard);
 }

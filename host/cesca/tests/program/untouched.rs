@@ -1,15 +1,15 @@
 //! No file is changed by asking about it.
 
-use crate::place::Place;
+use crate::sandbox::Sandbox;
 use std::fs;
 use std::time::SystemTime;
 
-/// The files of a place: names, bytes, and when they were written.
-fn files(place: &Place) -> Vec<(String, Vec<u8>, SystemTime)> {
-    let names = place.names().into_iter();
+/// The files of a sandbox: names, bytes, and when they were written.
+fn files(sandbox: &Sandbox) -> Vec<(String, Vec<u8>, SystemTime)> {
+    let names = sandbox.names().into_iter();
     let files = names.map(|name| {
-        let written = fs::metadata(place.path(&name)).and_then(|metadata| metadata.modified());
-        let bytes = place.read(&name);
+        let written = fs::metadata(sandbox.path(&name)).and_then(|metadata| metadata.modified());
+        let bytes = sandbox.read(&name);
         (name, bytes, written.expect("a time"))
     });
     files.collect()
@@ -17,16 +17,16 @@ fn files(place: &Place) -> Vec<(String, Vec<u8>, SystemTime)> {
 
 #[test]
 fn asking_changes_no_file_and_makes_none() {
-    let place = Place::new("untouched").with_stored(&["a.bin", "masked.bin"]);
-    let place = place.with("short.bin", "short").with("mine.txt", "routine 0 at 0 need 0");
-    let before = files(&place);
+    let sandbox = Sandbox::new("untouched").with_stored(&["a.bin", "masked.bin"]);
+    let sandbox = sandbox.with("short.bin", "short").with("mine.txt", "routine 0 at 0 need 0");
+    let before = files(&sandbox);
     for command in ["admit", "run", "sheet", "step"] {
         for name in ["a.bin", "masked.bin", "short.bin", "mine.txt", "none.bin"] {
-            place.cesca_given(&[command, name], "\n9\n");
+            sandbox.cesca_given(&[command, name], "\n9\n");
         }
     }
-    place.cesca(&["file", "short.bin", "made.bin"]);
-    place.cesca(&["file", "none.txt", "made.bin"]);
-    place.cesca(&["help"]);
-    assert!(files(&place) == before);
+    sandbox.cesca(&["file", "short.bin", "made.bin"]);
+    sandbox.cesca(&["file", "none.txt", "made.bin"]);
+    sandbox.cesca(&["help"]);
+    assert!(files(&sandbox) == before);
 }

@@ -1,6 +1,6 @@
 //! How the program is used, and how it isn't.
 
-use crate::place::{expect_err, expect_out, Place};
+use crate::sandbox::{expect_err, expect_out, Sandbox};
 
 /// The usage lines of the commands.
 const COMMANDS: [&str; 6] = [
@@ -14,23 +14,41 @@ const COMMANDS: [&str; 6] = [
 
 /// Fails unless the program refuses these words, for a reason and with the usage.
 fn check(words: &[&str], reason: &str, usage: &str) {
-    let place = Place::new("usage").with_stored(&["a.bin"]);
-    expect_err(place.cesca(words), 2, &format!("cesca: {reason}\nusage: {usage}\n"));
+    let sandbox = Sandbox::new("usage").with_stored(&["a.bin"]);
+    expect_err(sandbox.cesca(words), 2, &format!("cesca: {reason}\nusage: {usage}\n"));
 }
 
 #[test]
 fn help() {
-    let place = Place::new("usage-help");
-    let found = place.cesca(&["help"]);
+    let sandbox = Sandbox::new("usage-help");
+    let found = sandbox.cesca(&["help"]);
     assert_eq!((found.status, found.err.as_str()), (0, ""));
     let lines: Vec<&str> = found.out.lines().collect();
     for command in COMMANDS {
         assert!(lines.contains(&command), "{command}");
     }
     assert!(lines.iter().all(|line| line.len() <= 80), "{}", found.out);
-    for words in [&[][..], &["--help"], &["help", "run"], &["run", "--help"]] {
-        expect_out(place.cesca(words), &found.out);
+    for words in [&["--help"][..], &["help", "run"], &["run", "--help"]] {
+        expect_out(sandbox.cesca(words), &found.out);
     }
+}
+
+#[test]
+fn help_tells_limits_and_standard_input() {
+    let help = Sandbox::new("usage-told").cesca(&["help"]).out;
+    let help = help.split_whitespace().collect::<Vec<_>>().join(" ");
+    for told in [
+        "With --hz N, the time at this clock is told; N is whole, 1 to 1,000,000.",
+        "- is standard input (not for `cesca step`, which reads its steps there)",
+        "1 if something was refused, 2 if usage or input was wrong.",
+    ] {
+        assert!(help.contains(told), "{told}");
+    }
+}
+
+#[test]
+fn no_command() {
+    check(&[], "a command is missing", "cesca admit|run|sheet|step|file|help ..");
 }
 
 #[test]

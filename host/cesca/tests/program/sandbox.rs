@@ -13,7 +13,7 @@ use std::thread;
 static MADE: AtomicUsize = AtomicUsize::new(0);
 
 /// A directory of a test's own, which stays only if the test fails.
-pub struct Place {
+pub struct Sandbox {
     directory: PathBuf,
 }
 
@@ -25,14 +25,14 @@ pub struct Ran {
     pub err: String,
 }
 
-impl Place {
+impl Sandbox {
     /// An empty directory.
-    pub fn new(test: &str) -> Place {
+    pub fn new(test: &str) -> Sandbox {
         let (process, number) = (process::id(), MADE.fetch_add(1, Ordering::Relaxed));
         let name = format!("{test}-{process}-{number}");
         let directory = Path::new(env!("CARGO_TARGET_TMPDIR")).join(name);
         fs::create_dir_all(&directory).expect("a directory");
-        Place { directory }
+        Sandbox { directory }
     }
 
     /// The path of a file here.
@@ -41,18 +41,18 @@ impl Place {
     }
 
     /// The same with a file.
-    pub fn with(self, name: &str, bytes: impl AsRef<[u8]>) -> Place {
+    pub fn with(self, name: &str, bytes: impl AsRef<[u8]>) -> Sandbox {
         fs::write(self.path(name), bytes).expect("a file");
         self
     }
 
     /// The same with copies of stored listings.
-    pub fn with_stored(self, names: &[&str]) -> Place {
-        names.iter().fold(self, |place, name| place.with(name, stored(name)))
+    pub fn with_stored(self, names: &[&str]) -> Sandbox {
+        names.iter().fold(self, |sandbox, name| sandbox.with(name, stored(name)))
     }
 
     /// The same with the file of a listing that is given as text.
-    pub fn with_listing(self, name: &str, text: &str) -> Place {
+    pub fn with_listing(self, name: &str, text: &str) -> Sandbox {
         let listing = Listing::from_text(text).unwrap_or_else(|error| panic!("{error}"));
         self.with(name, listing.to_bytes())
     }
@@ -94,7 +94,7 @@ impl Place {
     }
 }
 
-impl Drop for Place {
+impl Drop for Sandbox {
     fn drop(&mut self) {
         if !thread::panicking() {
             fs::remove_dir_all(&self.directory).expect("a directory");
