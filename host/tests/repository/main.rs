@@ -15,5 +15,7 @@ mod known;
 mod links;
 mod numbers;
 mod promises;
+mod running;
+mod rust;
 mod source;
 mod table;
