@@ -14,6 +14,7 @@ mod items;
 mod known;
 mod links;
 mod numbers;
+mod placeholders;
 mod promises;
 mod running;
 mod rust;
