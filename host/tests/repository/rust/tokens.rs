@@ -16,11 +16,12 @@ pub fn tokens(text: &str) -> Vec<Token<'_>> {
     let mut tokens = Vec::new();
     let mut rest = text.trim_start();
     while let Some(sign) = rest.chars().next() {
-        let word = rest.find(|letter: char| !letter.is_alphanumeric() && letter != '_');
+        let end = rest.find(|letter: char| !letter.is_alphanumeric() && letter != '_');
+        let word = &rest[..end.unwrap_or(rest.len())];
         let length = comment(rest).unwrap_or_else(|| {
             let (token, length) = quoted(rest).unwrap_or(match word {
-                Some(0) => (Token::Sign(sign), sign.len_utf8()),
-                end => (Token::Word(&rest[..end.unwrap_or(rest.len())]), end.unwrap_or(rest.len())),
+                "" => (Token::Sign(sign), sign.len_utf8()),
+                word => (Token::Word(word), word.len()),
             });
             tokens.push(token);
             length
