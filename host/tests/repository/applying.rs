@@ -1,4 +1,5 @@
-//! A must-fail edit holds the lines that it changes: each stands just once in the edit's file.
+//! A must-fail edit holds the lines that it changes: there is one at least, each has a line in its
+//! place, and stands just once in the edit's file.
 
 use crate::finding::{expect_none, messages, Finding};
 use crate::source::{below, crates, read, Source};
@@ -21,6 +22,49 @@ fn findings(edit: &Source, text_of: impl Fn(&str) -> String) -> Vec<Finding> {
         }
     }
     found
+}
+
+/// What is wrong with the lines of an edit: besides comments, files and pairs of an old line and a
+/// new one, of which it has one at least.
+fn unpaired(edit: &Source) -> Vec<Finding> {
+    let lines = (1..).zip(edit.text.lines()).filter(|(_, line)| !line.starts_with('#'));
+    let keys = lines.map(|(at, line)| (at, line.split_once(": ").map_or(line, |(key, _)| key)));
+    let keys: Vec<(usize, &str)> = keys.collect();
+    let key = |place: Option<usize>| place.and_then(|place| keys.get(place)).map(|(_, key)| *key);
+    let wrong = keys.iter().enumerate().filter_map(|(place, (at, own))| {
+        let what = match *own {
+            "file" => None,
+            "old" => (key(Some(place + 1)) != Some("new")).then_some("no new line behind it"),
+            "new" => (key(place.checked_sub(1)) != Some("old")).then_some("no old line before it"),
+            _ => Some("no line of an edit"),
+        };
+        Some(Finding::new(&edit.file, *at, what?))
+    });
+    let mut found: Vec<Finding> = wrong.collect();
+    let changes = keys.iter().any(|(_, key)| *key == "old");
+    found.extend((!changes).then(|| Finding::new(&edit.file, 1, "no line is changed")));
+    found
+}
+
+#[test]
+fn every_edit_changes_lines() {
+    let crates = crates();
+    let edits = crates.iter().flat_map(|name| below(name, "must-fail", ".edit"));
+    expect_none(edits.flat_map(|edit| unpaired(&edit)).collect());
+}
+
+#[test]
+fn an_edit_without_a_pair_is_found() {
+    let found = |text: &str| messages(unpaired(&Source::new("e.edit", text)));
+    assert_eq!(found("# Why.\nfile: a\nold: x: y\nnew: \nfile: b\nold: x\nnew: y\n"), [""; 0]);
+    for text in ["", "# Why.\n", "# Why.\nfile: a\n", "# old: x\n# new: y\n"] {
+        assert_eq!(found(text), ["e.edit:1: no line is changed"], "{text}");
+    }
+    for text in ["old: x", "old: x\nold: y\nnew: z", "old: x\nfile: a", "old: x\n# new: y"] {
+        assert_eq!(found(text), ["e.edit:1: no new line behind it"], "{text}");
+    }
+    assert_eq!(found("old: x\nnew: y\nnew: z"), ["e.edit:3: no old line before it"]);
+    assert_eq!(found("old: x\nnew: y\nold:z"), ["e.edit:3: no line of an edit"]);
 }
 
 #[test]

@@ -4,6 +4,7 @@ mod gathering;
 pub mod tests;
 
 use crate::definitions::Definitions;
+use crate::running::Running;
 use std::collections::BTreeSet;
 
 /// What there is.
@@ -17,8 +18,8 @@ pub struct Known {
     exports: BTreeSet<String>,
     /// The files of definitions and proofs.
     modules: Vec<Module>,
-    /// The names of test functions.
-    tests: BTreeSet<String>,
+    /// The host's tests.
+    running: Running,
     /// The files of stored lines, each with what stands before a line's colon.
     cases: BTreeSet<(String, String)>,
     /// The examples' answers, as `5 at 7` and as `5`.
@@ -86,9 +87,9 @@ impl Known {
         self.modules.iter()
     }
 
-    /// Whether there is such a test function.
-    pub fn has_test(&self, name: &str) -> bool {
-        self.tests.contains(name)
+    /// The host's tests.
+    pub fn running(&self) -> &Running {
+        &self.running
     }
 
     /// Whether a case has a line in a file of stored lines.

@@ -1,7 +1,7 @@
 //! The documents' links lead to files, and README's map has every crate.
 
 use crate::finding::{expect_none, messages, Finding};
-use crate::source::{crates, files, read, root, Source};
+use crate::source::{crates, documents, read, root, Source};
 
 /// What begins the map in README, and what stands behind it.
 const MAP: [&str; 2] = ["## The map", "## How to read it"];
@@ -36,8 +36,7 @@ fn left_out<'a>(map: &str, crates: &'a [String]) -> Vec<&'a str> {
 
 #[test]
 fn every_link_leads_somewhere() {
-    let mut documents = files("docs", ".md");
-    documents.extend(["README.md", "listings/README.md"].map(read));
+    let documents = documents();
     let links: usize = documents.iter().map(|document| targets(&document.text).len()).sum();
     assert!(links >= 40, "only {links} links are seen");
     expect_none(documents.iter().flat_map(broken).collect());

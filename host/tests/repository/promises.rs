@@ -1,6 +1,7 @@
-//! The promises name every must-fail edit, and nothing that isn't there.
+//! The promises name every must-fail edit, nothing that isn't there, and no row without a carrier.
 
 mod columns;
+mod filled;
 mod lookup;
 mod names;
 mod tested;

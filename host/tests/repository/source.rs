@@ -30,6 +30,13 @@ pub fn read(file: &str) -> Source {
     Source { file: file.to_string(), text }
 }
 
+/// The documents: README, the docs, and what stands beside the listings.
+pub fn documents() -> Vec<Source> {
+    let mut documents = files("docs", ".md");
+    documents.extend(["README.md", "listings/README.md"].map(read));
+    documents
+}
+
 /// The crates, in order.
 pub fn crates() -> Vec<String> {
     let crates = entries("crates");

@@ -5,6 +5,8 @@
 pub struct Row<'a> {
     /// The line, the first being 1.
     pub line: usize,
+    /// The number of headings above it.
+    pub headings: usize,
     /// The cells, each with the heading of its column.
     pub cells: Vec<Cell<'a>>,
 }
@@ -25,7 +27,8 @@ pub fn rows(text: &str) -> Vec<Row<'_>> {
     for (line, content) in (1..).zip(text.lines()) {
         let Some(cells) = cells(content) else {
             headings = None;
-            rows.push(Row { line, cells: vec![Cell { heading: "", text: content }] });
+            let cells = vec![Cell { heading: "", text: content }];
+            rows.push(Row { line, headings: 0, cells });
             continue;
         };
         let Some(headings) = &headings else {
@@ -33,9 +36,9 @@ pub fn rows(text: &str) -> Vec<Row<'_>> {
             continue;
         };
         if !cells.iter().all(|text| text.starts_with("--")) {
-            let headings = headings.iter().chain(std::iter::repeat(&""));
-            let cells = headings.zip(cells).map(|(heading, text)| Cell { heading, text });
-            rows.push(Row { line, cells: cells.collect() });
+            let columns = headings.iter().chain(std::iter::repeat(&""));
+            let cells = columns.zip(cells).map(|(heading, text)| Cell { heading, text });
+            rows.push(Row { line, headings: headings.len(), cells: cells.collect() });
         }
     }
     rows
@@ -67,6 +70,7 @@ fn a_table_has_rows_with_headings() {
         (7, vec![("", "end")]),
     ];
     assert_eq!(messages, wanted);
+    assert_eq!(rows.iter().map(|row| row.headings).collect::<Vec<_>>(), [0, 0, 2, 2, 0]);
 }
 
 #[test]

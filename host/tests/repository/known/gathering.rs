@@ -3,18 +3,18 @@
 use super::{Known, Module};
 use crate::definitions::definitions;
 use crate::functions::functions;
-use crate::items::{items, name};
+use crate::items::items;
+use crate::running::Running;
 use crate::source::{files, paths, Source};
 
 /// The folders that a promise may name something in.
 const FOLDERS: [&str; 4] = ["crates", "docs", "host/tests", "listings"];
 
 /// The texts that are read for names, by folder and ending.
-const TEXTS: [(&str, &str); 6] = [
+const TEXTS: [(&str, &str); 5] = [
     ("crates", ".rt"),
     ("crates", ".antt"),
     ("crates", "/stdout"),
-    ("host/reference", ".rs"),
     ("host/tests", ".rs"),
     ("host/tests", ".txt"),
 ];
@@ -32,7 +32,7 @@ impl Known {
 
     /// What there is where these files are, of which some are read.
     pub fn of(paths: impl IntoIterator<Item = String>, sources: &[Source]) -> Known {
-        let mut known = Known::default();
+        let mut known = Known { running: Running::of(sources), ..Known::default() };
         for path in paths {
             let folders = path.match_indices('/').map(|(at, _)| path[..at].to_string());
             known.paths.extend(folders);
@@ -53,7 +53,7 @@ impl Known {
                 is_specs: part == "specs",
                 definitions: definitions(text),
             }),
-            ["host", ..] if file.ends_with(".rs") => self.tests.extend(test_functions(text)),
+            _ if file.ends_with(".rs") => {}
             _ => self.add_cases(file, text),
         }
         if file == EXAMPLES {
@@ -76,12 +76,6 @@ impl Known {
         let named = text.lines().filter_map(|line| line.split_once(':'));
         self.cases.extend(named.map(|(case, _)| (file.to_string(), case.to_string())));
     }
-}
-
-/// The names of the functions behind `#[test]`.
-fn test_functions(text: &str) -> impl Iterator<Item = String> + '_ {
-    let behind = text.split("#[test]").skip(1);
-    behind.filter_map(|text| text.split_once("fn ").map(|(_, rest)| name(rest).to_string()))
 }
 
 /// The answers of the examples, whose number and place end a `case`: as `5 at 7` and as `5`.

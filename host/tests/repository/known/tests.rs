@@ -58,13 +58,16 @@ fn antt_files_are_modules() {
 }
 
 #[test]
-fn tests_have_names_and_cases() {
+fn tests_are_run_and_have_cases() {
     let known = known(&[
-        ("host/tests/run/a.rs", "fn no() {}\n#[test]\nfn it_runs() {}\n"),
+        ("host/tests/run/main.rs", "mod a;\nmod b;\n"),
+        ("host/tests/run/a.rs", "#[test]\nfn it_runs() {}\n"),
+        ("host/tests/run/b.rs", ""),
         ("host/tests/run/a.txt", "push at SP 0: halted\nnone\n"),
         ("crates/vectors/stdout", "nop at 255: 13 at 255\n"),
     ]);
-    assert!(known.has_test("it_runs") && !known.has_test("no"));
+    assert!(known.running().has_test("host/tests/run/a.rs"));
+    assert!(!known.running().has_test("host/tests/run/b.rs"));
     assert!(known.has_case("host/tests/run/a.txt", "push at SP 0"));
     assert!(known.has_case("crates/vectors/stdout", "nop at 255"));
     assert!(!known.has_case("host/tests/run/a.txt", "none"));

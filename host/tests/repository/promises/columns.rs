@@ -30,3 +30,10 @@ impl Column {
         })
     }
 }
+
+/// Whether a column with this heading holds what carries a promise, and not just what tries it.
+pub fn carries(heading: &str) -> bool {
+    let said = ["definition", "where it is said", "what carries it"];
+    let kept = ["contract", "contract, theorem", "code", "proof or code"];
+    said.contains(&heading) || kept.contains(&heading)
+}

@@ -7,6 +7,7 @@ use crate::known::{Known, Module};
 pub fn wrong(name: &Name<'_>, known: &Known) -> Option<String> {
     (!is_there(name, known)).then(|| match (name.kind, name.scope) {
         (Kind::Module, Scope::Module(of, module)) => format!("no module {}", full(of, module)),
+        (Kind::Path(path), _) if known.has_path(path) => format!("{} isn't run", name.kind),
         (Kind::Path(_), _) => format!("{} is no file, folder or must-fail edit", name.kind),
         (Kind::Item(..), _) => format!("{} isn't in its crate's source", name.kind),
         (Kind::Argument(_), _) | (_, Scope::All) => format!("{} isn't defined", name.kind),
@@ -31,7 +32,10 @@ fn is_there(name: &Name<'_>, known: &Known) -> bool {
     let mut modules = known.modules().filter(|module| is_in(module, name.scope));
     match name.kind {
         Kind::Module => modules.next().is_some(),
-        Kind::Path(path) => known.has_path(path) || known.has_edit(path),
+        Kind::Path(path) => match path.strip_prefix("host/tests/") {
+            None | Some("") => known.has_path(path) || known.has_edit(path),
+            Some(_) => known.has_path(path) && known.running().has_part(path),
+        },
         Kind::Item(within, item) => known.has_item(&format!("{within}::{item}")),
         Kind::Field(of, field) => modules.any(|module| has_field(module, of, field)),
         Kind::Argument(word) => is_defined(word, known),

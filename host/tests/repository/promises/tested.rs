@@ -20,13 +20,15 @@ pub fn tests(cell: &str) -> Vec<Test<'_>> {
     tests
 }
 
-/// What is wrong with a test, if something is: a file or folder of the host's tests, a program with
-/// stored lines, or a test function.
+/// What is wrong with a test, if something is: a file or folder of the host's tests that is run, or
+/// a program with stored lines.
 pub fn wrong((name, case): Test<'_>, known: &Known) -> Option<String> {
     let below = format!("host/tests/{}", name.trim_start_matches("host/tests/"));
     let printed = format!("crates/{name}/stdout");
-    let is_there = known.has_path(&below) || known.has_path(&printed) || known.has_test(name);
-    if !is_there {
+    if known.has_path(&below) && !known.running().has_test(&below) {
+        return Some(format!("{name} has no test that is run"));
+    }
+    if !known.has_path(&below) && !known.has_path(&printed) {
         return Some(format!("{name} is no test"));
     }
     let case = case?;

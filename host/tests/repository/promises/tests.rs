@@ -21,7 +21,10 @@ fn small() -> Known {
         ("crates/isa/must-fail/swap_d.edit", ""),
         ("crates/vectors/stdout", "nop at 255: 13\n"),
         ("crates/examples/specs/Listings.antt", "case A 13 255\n"),
+        ("host/tests/run/main.rs", "mod shared;\nmod worked;\n"),
+        ("host/tests/run/shared.rs", "fn shared() {}\n"),
         ("host/tests/run/worked.rs", "#[test]\nfn it_runs() {}\n"),
+        ("host/tests/run/left_out.rs", "#[test]\nfn it_does_not_run() {}\n"),
         ("host/tests/run/worked.txt", "halted, budget 0: halted\nswap: halted\n"),
     ])
 }
@@ -108,17 +111,25 @@ fn a_definition_stands_behind_its_module() {
 
 #[test]
 fn a_test_that_is_gone_is_found() {
-    let there =
-        "run/worked.rs \"swap\", \"halted, budget 0\", vectors \"nop at 255\", `run/`, it_runs";
+    let there = "run/worked.rs \"swap\", \"halted, budget 0\", vectors \"nop at 255\", `run/`";
     assert_eq!(found("test", there), [""; 0]);
-    assert_eq!(found("test", "host/tests/run, run/worked.rs, vectors"), [""; 0]);
-    for test in ["host", "worked.rs", "alu", "crates/alu", "run/lost.rs", "lost", "run/ of a"] {
+    assert_eq!(found("test", "host/tests/run, run/worked.rs, run/worked.txt, vectors"), [""; 0]);
+    for test in ["host", "worked.rs", "alu", "crates/alu", "run/lost.rs", "it_runs", "run/ of a"] {
         check("test", test, &format!("{test} is no test"));
     }
     check("test", "run/worked.rs \"lost\"", "run/worked.rs has no case \"lost\"");
     check("test", "run/worked.rs \"swap\", \"lost\"", "run/worked.rs has no case \"lost\"");
     check("test", "run/ \"swap\"", "run/ has no case \"swap\"");
     check("test", "\"swap\"", "swap is no test");
+}
+
+#[test]
+fn a_test_that_is_not_run_is_found() {
+    for test in ["run/left_out.rs", "run/shared.rs"] {
+        check("test", test, &format!("{test} has no test that is run"));
+    }
+    assert_eq!(found("code", "`host/tests/run/shared.rs`, `host/tests/run`"), [""; 0]);
+    check("code", "`host/tests/run/left_out.rs`", "`host/tests/run/left_out.rs` isn't run");
 }
 
 #[test]
