@@ -1,0 +1,6 @@
+pub mod Rows
+pub mod Runs
+pub mod Scans
+pub mod Seeks
+pub mod Table
+pub mod Tables

@@ -1,0 +1,20 @@
+use Rattle.spelling.specs.Reading.{literalOf, byteOf, scanOf}
+use mathlib.Core.Path.{_≡_, refl, sym, ap, _∙_}
+use native.Mathlib.Omega.{arith}
+use borrow.Author.Tests.{lt-ltb, le-ltb, le-leb, lt-leb, eq-eqb, ne-eqb}
+use borrow.Author.Needs.{needs}
+use Rattle.spelling.proofs.literal.Statement.{statement}
+use Rattle.spelling.proofs.literal.Tie as tie
+
+pub literal-spec : {M : Type 1} → statement M
+unfolding literalOf
+literal-spec =
+    tie.close
+    (tie.spec
+    (λ c κs. search needs)
+    (λ c. simp (le-ltb _ _ (c .before .if1 .taken)) (c .fail .ensures))
+    (λ c. search needs)
+    (λ c. search needs)
+    (λ c. simp (lt-ltb _ _ (c .before .before .before .if1 .left), eq-eqb _ _ (c .before .if2 .taken)))
+    (λ c κs. search needs)
+    (λ c. simp (lt-ltb _ _ (c .before .before .before .if1 .left), ne-eqb _ _ (c .before .if2 .left)) (c .fail2 .ensures)))

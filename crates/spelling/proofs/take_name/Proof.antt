@@ -1,0 +1,16 @@
+use Rattle.spelling.specs.Reading.{literalOf, byteOf, scanOf}
+use mathlib.Core.Path.{_≡_, refl, sym, ap, _∙_}
+use native.Mathlib.Omega.{arith}
+use borrow.Author.Tests.{lt-ltb, le-ltb, le-leb, lt-leb, eq-eqb, ne-eqb}
+use borrow.Author.Needs.{needs}
+use Rattle.spelling.proofs.take_name.Statement.{statement}
+use Rattle.spelling.proofs.take_name.Tie as tie
+
+pub take-name-spec : {M : Type 1} → statement M
+take-name-spec =
+    tie.close
+    (tie.spec
+    (λ c. search needs)
+    (λ c. simp (eq-eqb _ _ (c .before .if1 .taken)))
+    (λ c κs. search needs)
+    (λ c. simp (ne-eqb _ _ (c .before .if1 .left)) (c .fail .ensures)))

@@ -1,0 +1,4 @@
+pub mod Spellings
+pub mod Words
+pub mod Reading
+pub mod internal
