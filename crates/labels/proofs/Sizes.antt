@@ -24,6 +24,10 @@ size-is : (p : Places) (to at k : ℕ) → k < 90 → sizeBy k ≡ length (forms
 unfolding formsOf
 size-is p to at k h = same-below sizeBy (λ k. length (formsOf k p to at)) 90 refl k h
 
+-- a row stands for as many words whatever stands in its places
+pub row-length : (k : ℕ) → k < 90 → (p q : Places) (to to′ at at′ : ℕ) → length (formsOf k p to at) ≡ length (formsOf k q to′ at′)
+row-length k h p q to to′ at at′ = sym (size-is p to at k h) ∙ size-is q to′ at′ k h
+
 pub row-words : (k n : ℕ) → k < 90 → n ≤ 3 → n ≡ sizeBy k → WordsOf k n
 row-words k n h l e = (l, λ p to at. e ∙ size-is p to at k h)
 

@@ -1,0 +1,4 @@
+pub mod Storing
+pub mod Counts
+pub mod Lines
+pub mod Bytes
