@@ -60,8 +60,8 @@ answer-told t number line {f} some low e =
     let b : f / 256 ≡ line = omega arith in
     rw (ne-eqb f 0 (λ z. omega arith), a, b)
 
-module _ {t : List ℕ} {s : Survey} {a starts numbers : List ℕ} (i : Inspected t s a) where
-  pub bad-looked : (s .bad ≡ 0 → ⊥) → Looked t (24, s .bad, 0) a starts numbers
+module _ {t : List ℕ} {s : Survey} {a : List ℕ} (i : Inspected t s a) where
+  pub bad-looked : {starts numbers : List ℕ} → (s .bad ≡ 0 → ⊥) → Looked t (24, s .bad, 0) a starts numbers
   bad-looked z =
       record {
         answers = answer-told t 24 (s .bad) (omega arith) (omega arith)
@@ -73,7 +73,7 @@ module _ {t : List ℕ} {s : Survey} {a starts numbers : List ℕ} (i : Inspecte
     good : badLine t ≡ 0
     good = sym (i .bad) ∙ g
 
-    pub fault-looked : {fault : ℕ} → fault ≡ badLabel t → (fault ≡ 0 → ⊥) → Looked t (25, fault, 0) a starts numbers
+    pub fault-looked : {fault : ℕ} {starts numbers : List ℕ} → fault ≡ badLabel t → (fault ≡ 0 → ⊥) → Looked t (25, fault, 0) a starts numbers
     fault-looked {fault} e z =
         record {
           answers = answer-told t 25 fault (omega arith) (omega arith)
@@ -82,7 +82,7 @@ module _ {t : List ℕ} {s : Survey} {a starts numbers : List ℕ} (i : Inspecte
         }
 
     module _ {fault : ℕ} (e : fault ≡ badLabel t) (z : fault ≡ 0) where
-      pub long-looked : 256 < s .words → Looked t (26, 0, 0) a starts numbers
+      pub long-looked : {starts numbers : List ℕ} → 256 < s .words → Looked t (26, 0, 0) a starts numbers
       long-looked h =
           let w : 256 < wordCount (linesOf t) = count-over (linesOf t) (rw (i .words g) at h) in
           record {
@@ -91,7 +91,7 @@ module _ {t : List ℕ} {s : Survey} {a starts numbers : List ℕ} (i : Inspecte
             ready = λ y. absurd (omega arith);
           }
 
-      pub good-looked : s .words ≤ 256 → Index t starts numbers → Looked t (0, 0, s .words) a starts numbers
+      pub good-looked : {starts numbers : List ℕ} → s .words ≤ 256 → Index t starts numbers → Looked t (0, 0, s .words) a starts numbers
       good-looked h x =
           let w : s .words ≡ wordCount (linesOf t) = i .words g ∙ count-exact (linesOf t) (rw (i .words g) at h) in
           let few : wordCount (linesOf t) ≤ 256 = rw w at h in
