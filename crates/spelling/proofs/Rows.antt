@@ -46,7 +46,7 @@ flat-at k j h l =
     let e : (16 * k + j) / 16 ≡ k = omega arith in
     let f : (16 * k + j) % 16 ≡ j = omega arith in
     let t : getD flat (16 * k + j) 0 ≡ getD (patternOf ((16 * k + j) / 16)) ((16 * k + j) % 16) 46
-          = eqb→eq _ _ (at right flat tt (16 * k + j) (omega arith)) in
+    = eqb→eq _ _ (at right flat tt (16 * k + j) (omega arith)) in
     rw (e, f) at t
 
 -- no spelling is over 16 bytes
