@@ -1,7 +1,7 @@
 -- No line fits two rows. Two spellings, read in lock step, stand at the same place of a line as long as both take words or both take single
 -- bytes; sooner or later one asks for what the other excludes, or one ends before the other.
 -- Assumes nothing.
-use Prim.Native.Nat.{ℕ, _<_}
+use Prim.Native.Nat.{ℕ, _≤_, _<_}
 use native.Mathlib.Omega.{arith}
 use mathlib.Core.Path.{_≡_, refl, sym, _∙_}
 use mathlib.Core.Bool.{Bool, true, false, not, cond, _&&_, _||_, Bool·beq, false≢true}
@@ -11,12 +11,14 @@ use lib.ListN.{getD, drop}
 use borrow.Author.Tests.{eqb-true, ltb-true, ltb-false, not-true}
 use Rattle.slices.proofs.Bools.{by-test, both, neither}
 use Rattle.slices.proofs.Below as below
+use Rattle.spelling.specs.declared.Matched.the-variants.{Fits}
 use Rattle.spelling.specs.declared.Operand.{Operand}
 use Rattle.spelling.specs.declared.Operand.the-variants.{Register, Number, Name, Other}
 use Rattle.spelling.specs.declared.Scan.{Scan}
 use Rattle.spelling.specs.Spellings.{spellings, patternOf}
 use Rattle.spelling.specs.Words.{operandOf, wordOf}
-use Rattle.spelling.specs.Reading.{isPlace, byteOf, scanOf, readOf, fits}
+use Rattle.spelling.specs.Reading.{isPlace, byteOf, scanOf, readOf, fits, matchedOf}
+use Rattle.spelling.proofs.Seeks.{skip-to, seek-hits}
 use Rattle.spelling.proofs.Fronts.{ofRegister, takes, allows, Read, fit-read, fit-inside, fit-ended}
 
 -- the only first byte that may stand at c, where c is neither # nor @
@@ -95,3 +97,10 @@ one-row l i j k h g e f =
     by-test (ltb j k) (λ a. absurd (one-fits l (patternOf k) (patternOf j) _ _ refl (rows-apart k g j (ltb-true j k a)) f e)) (λ a.
     by-test (ltb k j) (λ b. absurd (one-fits l (patternOf j) (patternOf k) _ _ refl (rows-apart j h k (ltb-true k j b)) e f)) (λ b.
     omega (arith, ltb-false j k a, ltb-false k j b)))
+
+-- so the row that a line fits is the row that is found
+pub row-found : (l : List ℕ) (i k : ℕ) → k < 90 → fits l (readOf l i k) ≡ true → matchedOf l i 0 90 ≡ Fits k (readOf l i k .places)
+row-found l i k h f = sym (seek-hits (record { within = omega arith; left = skip-to l i 0 k (omega arith) (omega arith) others }) h refl f)
+  where
+    others : (j : ℕ) → 0 ≤ j → j < k → fits l (readOf l i j) ≡ false
+    others j a b = by-test (fits l (readOf l i j)) (λ e. let q = one-row l i j k (omega arith) h e f in absurd (omega arith)) (λ e. e)

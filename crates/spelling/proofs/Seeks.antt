@@ -129,7 +129,7 @@ pub record Seeking (l : List ℕ) (i k : ℕ) : Type 0 where
   pub within : k ≤ 90
   pub left : matchedOf l i 0 90 ≡ matchedOf l i k (90 - k)
 
-skip-to : (l : List ℕ) (i k r : ℕ) → k ≤ r → r ≤ 90 → ((j : ℕ) → k ≤ j → j < r → fits l (readOf l i j) ≡ false)
+pub skip-to : (l : List ℕ) (i k r : ℕ) → k ≤ r → r ≤ 90 → ((j : ℕ) → k ≤ j → j < r → fits l (readOf l i j) ≡ false)
     → matchedOf l i k (90 - k) ≡ matchedOf l i r (90 - r)
 skip-to l i k r h g f =
     let e : k + (r - k) ≡ r = omega arith in
