@@ -4,16 +4,14 @@
 use Prim.Native.Nat.{ℕ, zero, suc, _+_, _-_, _≤_, _<_}
 use native.Mathlib.Omega.{arith}
 use native.Mathlib.Nat.{sub-eq-zero-of-le}
-use native.Mathlib.Numerals.{add-one}
 use mathlib.Core.Path.{_≡_, refl, sym, ap, ap₂, _∙_}
-use mathlib.Core.Bool.{Bool, true, false, not, cond, _&&_, _||_}
+use mathlib.Core.Bool.{Bool, true, false, not, cond, _&&_}
 use mathlib.Core.List.{List, [], _∷_}
-use lib.Dec.{eqb, leb, ltb}
-use lib.ListN.{length, getD, List·getD-eq-default}
-use borrow.Author.Tests.{lt-ltb, le-ltb, eq-eqb, ltb-true, ltb-false, leb-true, not-true, eqb-true}
+use lib.Dec.{eqb, ltb}
+use lib.ListN.{length, getD}
+use borrow.Author.Tests.{eq-eqb, ltb-true, ltb-false, not-true, eqb-true}
 use Rattle.slices.proofs.Bools.{by-test, both}
 use Rattle.slices.proofs.Below as below
-use Rattle.spelling.specs.declared.Matched.{Matched}
 use Rattle.spelling.specs.declared.Matched.the-variants.{Fits, Misfit}
 use Rattle.spelling.specs.declared.Scan.{Scan}
 use Rattle.spelling.specs.Spellings.{spellings, patternOf}
