@@ -1,4 +1,4 @@
--- From the answer's one equation to all that is promised of it, for a form that is refused and for one that is printed.
+-- From an answer's one equation, and its text's length, to all that is promised: of a form that is refused and of one that is printed.
 -- Assumes nothing.
 use Prim.Native.Nat.{ℕ, zero, suc, _-_, _≤_}
 use native.Mathlib.Omega.{arith}

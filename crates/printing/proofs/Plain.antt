@@ -1,4 +1,4 @@
--- No text of a form has a line feed or a colon, so it is one line and gives no label; and none is empty.
+-- No text of a form has a line feed or a colon, so it is one line and gives no label; and a valid form's is not empty.
 -- Assumes nothing.
 use Prim.Native.Nat.{ℕ, zero, suc, _+_, _/_, _%_, _<_}
 use native.Mathlib.Omega.{arith}

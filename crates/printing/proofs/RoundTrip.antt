@@ -63,7 +63,7 @@ module _ (x : Fields) (choose : ℕ → ℕ → ℕ) where
   unfolding patternOf spellings instrOf
   rows-shown k h = same-below formRead formShown 70 refl k h
 
--- the one of two numbers that is not 0
+-- the one of two numbers that is not 0, as `numberIn` chooses
 abbrev either : ℕ → ℕ → ℕ
 either n m = cond (eqb n 0) m n
 

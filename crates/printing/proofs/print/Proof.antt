@@ -1,3 +1,5 @@
+-- Refused by the encoder's number, or the text over spaces.
+-- Assumes nothing.
 use borrow.Author.Needs.{needs}
 use mathlib.Core.Path.{sym, ap, _∙_}
 use native.Mathlib.Omega.{arith}

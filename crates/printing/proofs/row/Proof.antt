@@ -1,3 +1,5 @@
+-- By the form's number, as in the definition.
+-- Assumes nothing.
 use borrow.Author.Needs.{needs}
 use borrow.Author.Tests.{eq-eqb, ne-eqb}
 use Rattle.printing.proofs.row.Statement.{statement}

@@ -1,3 +1,5 @@
+-- "R", and the number behind it.
+-- Assumes nothing.
 use borrow.Author.Needs.{needs}
 use mathlib.Core.Path.{ap, _∙_}
 use Rattle.pages.specs.Page.{writeOf}

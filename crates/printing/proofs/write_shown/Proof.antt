@@ -1,3 +1,5 @@
+-- Each test of the code is one of the definition.
+-- Assumes nothing.
 use borrow.Author.Needs.{needs}
 use borrow.Author.Tests.{eq-eqb, ne-eqb}
 use Rattle.pages.specs.Page.{writeOf}
