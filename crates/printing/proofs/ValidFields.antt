@@ -3,44 +3,25 @@
 -- Assumes nothing.
 use Prim.Native.Nat.{ℕ, _<_}
 use native.Mathlib.Omega.{arith}
-use mathlib.Core.Path.{_≡_, refl, sym, ap, ap₂, _∙_}
+use mathlib.Core.Path.{_≡_, refl, sym}
 use mathlib.Core.Bool.{Bool, true, false, not, _&&_, _||_}
-use mathlib.Core.List.{List}
 use lib.Dec.{eqb, ltb}
-use lib.ListN.{getD}
 use borrow.Author.Tests.{eqb-true, ltb-true, ltb-false}
-use Rattle.slices.specs.Lists.{mapped}
 use Rattle.slices.proofs.Below as below
 use Rattle.slices.proofs.Bools.{both, neither}
-use Rattle.slices.proofs.Lookup.{getD-mapped}
-use Rattle.isa.specs.Decode.{forms}
 use Rattle.isa.specs.Encode.{badInOpcode, badInArgument, badFunction, Valid}
 use Rattle.isa.specs.Table.{rowOf, opcodeIn, argumentIn}
 use Rattle.isa.specs.declared.Argument.{Argument}
 use Rattle.isa.specs.declared.Argument.the-variants.{FFFFXXBB, IIIIIIII, XXXXXXBB, XXXXXXXX}
 use Rattle.isa.specs.declared.Instr.{Instr}
-use Rattle.isa.specs.declared.Instr.the-variants.{Nop}
 use Rattle.isa.specs.declared.Opcode.{Opcode}
 use Rattle.isa.specs.declared.Opcode.the-variants.{DDAA, DDXX, OOAA, OOXX}
-use Rattle.numbers.specs.Numbers.{fieldsOf, instrOf}
+use Rattle.numbers.specs.Numbers.{fieldsOf}
 use Rattle.numbers.specs.declared.Fields.{Fields}
-use Rattle.numbers.proofs.FieldsInverse.{fields-inverse}
 use Rattle.spelling.specs.Spellings.{rowWith, formAt, functionAt}
 use Rattle.printing.specs.Print.{rowOf as spelledIn}
 use Rattle.printing.specs.Shown.{isFunction}
-
--- two functions that agree on a list and on the default agree on what stands at a place
-same-at : {A B : Type 0} (p q : A → B) (l : List A) (n : ℕ) (d : A) → mapped p l ≡ mapped q l → p d ≡ q d → p (getD l n d) ≡ q (getD l n d)
-same-at {B = B} p q l n d e h = getD-mapped p l n d ∙ ap₂ (λ (m : List B) (y : B). getD m n y) e h ∙ sym (getD-mapped q l n d)
-
--- so two that agree on the forty forms, whatever stands in their fields, agree everywhere
-by-forms : {B : Type 0} (p q : Instr → B) → ((d a f b n : ℕ) → mapped p (forms d a f b n) ≡ mapped q (forms d a f b n)) → (i : Instr) → p i ≡ q i
-by-forms {B} p q e i = rw fields-inverse at (in-table (fieldsOf i))
-  where
-    in-table : (x : Fields) → p (instrOf x) ≡ q (instrOf x)
-    in-table x =
-        unfold instrOf in same-at p q (forms (x .1) (x .2) (x .3) (x .4) (x .5)) (x .0) Nop (e (x .1) (x .2) (x .3) (x .4) (x .5))
-        (ap (λ (l : List B). getD l 39 (p Nop)) (e 0 0 0 0 0))
+use Rattle.printing.proofs.AllForms.{by-forms}
 
 -- the letters of a row of 003's table, 0 for one that it has not
 abbrev dIn : Opcode → ℕ

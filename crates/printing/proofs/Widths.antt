@@ -11,10 +11,13 @@ use borrow.Author.Tests.{leb-true}
 use Rattle.slices.proofs.Bools.{by-test}
 use Rattle.slices.proofs.Below as below
 use Rattle.pages.specs.Text.{digits, decimal}
+use Rattle.isa.specs.declared.Instr.{Instr}
+use Rattle.numbers.specs.Numbers.{fieldsOf}
 use Rattle.numbers.specs.declared.Fields.{Fields}
 use Rattle.spelling.specs.Spellings.{spellings, patternOf}
 use Rattle.spelling.proofs.Rows.{all-at}
-use Rattle.printing.specs.Print.{shownAt, filled, textWidth}
+use Rattle.printing.specs.Print.{shownAt, filled, rowOf, textOf, textWidth}
+use Rattle.printing.proofs.Bytes.{Bytes}
 
 -- the most characters that are printed for a byte of a spelling
 abbrev width : ℕ → ℕ
@@ -32,19 +35,23 @@ decimal-short : (n : ℕ) → n < 256 → length (decimal n) ≤ 3
 unfolding decimal digits
 decimal-short n h = leb-true _ _ (below.at (λ n. leb (length (decimal n)) 3) 256 refl n h)
 
-module _ (x : Fields) (d : x .1 < 256) (a : x .2 < 256) (b : x .4 < 256) (n : x .5 < 256) where
+module _ (x : Fields) (h : Bytes x) where
   shown-short : (c : ℕ) → length (shownAt x c) ≤ width c
   unfolding shownAt
   shown-short c =
-      by-test (eqb c 88) (λ e. rw e (omega (arith, decimal-short (x .1) d))) (λ e.
-      by-test (eqb c 89) (λ f. rw (e, f) (omega (arith, decimal-short (x .2) a))) (λ f.
-      by-test (eqb c 90) (λ g. rw (e, f, g) (omega (arith, decimal-short (x .4) b))) (λ g.
-      by-test (eqb c 35 || eqb c 64) (λ h. rw (e, f, g, h) (decimal-short (x .5) n)) (λ h. rw (e, f, g, h) (omega arith)))))
+      by-test (eqb c 88) (λ e. rw e (omega (arith, decimal-short (x .1) (h .d)))) (λ e.
+      by-test (eqb c 89) (λ f. rw (e, f) (omega (arith, decimal-short (x .2) (h .a)))) (λ f.
+      by-test (eqb c 90) (λ g. rw (e, f, g) (omega (arith, decimal-short (x .4) (h .b)))) (λ g.
+      by-test (eqb c 35 || eqb c 64) (λ i. rw (e, f, g, i) (decimal-short (x .5) (h .n))) (λ i. rw (e, f, g, i) (omega arith)))))
 
   filled-short : (p : List ℕ) → length (filled p x) ≤ widths p
   unfolding filled
   filled-short [] = omega arith
   filled-short (c ∷ p) = omega (arith, shown-short c, filled-short p, length-append (shownAt x c) (filled p x))
 
-  pub text-short : (k : ℕ) → length (filled (patternOf k) x) ≤ textWidth
-  text-short k = omega (arith, filled-short (patternOf k), rows-narrow k)
+  filled-narrow : (k : ℕ) → length (filled (patternOf k) x) ≤ textWidth
+  filled-narrow k = omega (arith, filled-short (patternOf k), rows-narrow k)
+
+pub text-short : (i : Instr) → Bytes (fieldsOf i) → length (textOf i) ≤ textWidth
+unfolding textOf
+text-short i h = filled-narrow (fieldsOf i) h (rowOf (fieldsOf i))

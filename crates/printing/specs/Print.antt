@@ -59,5 +59,5 @@ pub record Prints (i : Instr) (r : Printed) : Type 0 where
   -- "22 and 23 cover a form to be printed too": printing refuses what encoding refuses, by the same number
   pub as-encoding : r .0 ≡ numberOf (encodeOf i)
   pub checked : FirstViolation (encodeChecks i) (r .0)
-  -- a text that is printed has room
-  pub short : r .0 ≡ 0 → length (textOf i) ≤ textWidth
+  -- the text has room
+  pub short : length (textOf i) ≤ textWidth

@@ -2,9 +2,9 @@
 use isa::Instr;
 use numbers::Fields;
 ghost use mathlib.Core.Path.{_≡_};
-ghost use Rattle.pages.specs.Page.{page, writeOf, Written};
+ghost use Rattle.pages.specs.Page.{page, writeOf};
 ghost use Rattle.spelling.specs.Spellings.{patternOf, rowWith};
-ghost use Rattle.printing.specs.Print.{register, shownAt, filled, textOf, textWidth, Prints};
+ghost use Rattle.printing.specs.Print.{register, shownAt, filled, textOf, Prints};
 
 // The most characters that a text has.
 pub const TEXT_WIDTH: usize = 23;
@@ -76,7 +76,7 @@ fn write_filled(out: &mut [u8], at: usize, k: usize, x: Fields) -> usize
 
 // The text of an instruction is written from a place on; the place after it.
 pub fn write_text(out: &mut [u8], at: usize, instr: Instr) -> usize
-    ensures { λ n. ⌜ Written textWidth (textOf instr) (page (now (out .entry)) at) (page (now (out .exit)) n) ⌝ }
+    ensures { λ n. ⌜ page (now (out .exit)) n ≡ writeOf (textOf instr) (page (now (out .entry)) at) ⌝ }
 {
     let x = numbers::fields_of(instr);
     write_filled(out, at, row(x.0, x.3), x)
