@@ -2,10 +2,7 @@
 use isa::Instr;
 use numbers::Fields;
 ghost use mathlib.Core.Path.{_≡_};
-ghost use Prim.Native.Nat.{_+_, _≤_};
-ghost use lib.ListN.{length};
 ghost use Rattle.pages.specs.Page.{page, writeOf};
-ghost use Rattle.numbers.specs.Numbers.{fieldsOf};
 ghost use Rattle.spelling.specs.Spellings.{patternOf, rowWith};
 ghost use Rattle.printing.specs.Print.{register, shownAt, filled, textOf, Prints};
 

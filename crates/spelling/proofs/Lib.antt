@@ -1,3 +1,5 @@
+pub mod Fronts
+pub mod OneRow
 pub mod Rows
 pub mod Runs
 pub mod Scans

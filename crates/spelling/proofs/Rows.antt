@@ -3,10 +3,10 @@
 -- Assumes nothing.
 use Prim.Native.Nat.{ℕ, zero, suc, _+_, _*_, _/_, _%_, _≤_, _<_}
 use native.Mathlib.Omega.{arith}
-use mathlib.Core.Path.{_≡_, refl, sym, _∙_}
-use mathlib.Core.Bool.{Bool, true, false, not, _&&_}
+use mathlib.Core.Path.{_≡_, refl, _∙_}
+use mathlib.Core.Bool.{Bool, true, not, _&&_}
 use mathlib.Core.List.{List, [], _∷_, _++_}
-use lib.Dec.{T, eqb, leb, ltb, eqb→eq}
+use lib.Dec.{eqb, leb, ltb, eqb→eq}
 use lib.ListN.{length, getD, List·getD-eq-default}
 use borrow.Author.Tests.{leb-true, eqb-false, not-true, ltb-true, ltb-false}
 use Rattle.slices.proofs.Bools.{by-test, both}
@@ -46,7 +46,7 @@ flat-at k j h l =
     let e : (16 * k + j) / 16 ≡ k = omega arith in
     let f : (16 * k + j) % 16 ≡ j = omega arith in
     let t : getD flat (16 * k + j) 0 ≡ getD (patternOf ((16 * k + j) / 16)) ((16 * k + j) % 16) 46
-          = eqb→eq _ _ (at right flat tt (16 * k + j) (omega arith)) in
+    = eqb→eq _ _ (at right flat tt (16 * k + j) (omega arith)) in
     rw (e, f) at t
 
 -- no spelling is over 16 bytes

@@ -1,22 +1,21 @@
 -- The loop that reads a line by a spelling.
 -- Assumes nothing.
-use Prim.Native.Nat.{ℕ, zero, suc, _+_, _*_, _-_, _≤_, _<_}
+use Prim.Native.Nat.{ℕ, _+_, _≤_, _<_}
 use native.Mathlib.Omega.{arith}
-use native.Mathlib.Nat.{add-sub-cancel-left}
 use native.Mathlib.Numerals.{add-one}
-use mathlib.Core.Path.{_≡_, refl, sym, ap, _∙_}
-use mathlib.Core.Bool.{Bool, true, false, not, cond, _&&_}
+use mathlib.Core.Path.{_≡_, refl, sym, _∙_}
+use mathlib.Core.Bool.{Bool, true, false, cond, _&&_}
 use mathlib.Core.List.{List, [], _∷_}
 use lib.Dec.{eqb, ltb}
-use lib.ListN.{length, getD, take, drop, drop-of-length-le, length-drop, List·getD-eq-default}
+use lib.ListN.{length, getD, drop, drop-of-length-le, length-drop}
 use lib.Seq.{drop-cons}
-use borrow.Author.Tests.{lt-ltb, le-ltb, eq-eqb, ne-eqb, ltb-true, not-true, eqb-false, ltb-false}
+use borrow.Author.Tests.{ltb-true}
 use Rattle.spelling.specs.declared.Operand.{Operand}
 use Rattle.spelling.specs.declared.Operand.the-variants.{Register, Number, Name, Other}
 use Rattle.spelling.specs.declared.Scan.{Scan}
 use Rattle.spelling.specs.Words.{inWord, runOf, operandOf, wordOf}
-use Rattle.spelling.specs.Spellings.{spellings, patternOf}
-use Rattle.spelling.specs.Reading.{isPlace, tookOf, failed, literalOf, byteOf, scanOf}
+use Rattle.spelling.specs.Spellings.{patternOf}
+use Rattle.spelling.specs.Reading.{isPlace, tookOf, literalOf, byteOf, scanOf}
 use Rattle.slices.proofs.Bools.{by-test, both}
 use Rattle.spelling.proofs.Rows.{short, no-dots, dot-ends, not-dot}
 

@@ -4,16 +4,14 @@
 use Prim.Native.Nat.{ℕ, zero, suc, _+_, _-_, _≤_, _<_}
 use native.Mathlib.Omega.{arith}
 use native.Mathlib.Nat.{sub-eq-zero-of-le}
-use native.Mathlib.Numerals.{add-one}
 use mathlib.Core.Path.{_≡_, refl, sym, ap, ap₂, _∙_}
-use mathlib.Core.Bool.{Bool, true, false, not, cond, _&&_, _||_}
+use mathlib.Core.Bool.{Bool, true, false, not, cond, _&&_}
 use mathlib.Core.List.{List, [], _∷_}
-use lib.Dec.{eqb, leb, ltb}
-use lib.ListN.{length, getD, List·getD-eq-default}
-use borrow.Author.Tests.{lt-ltb, le-ltb, eq-eqb, ltb-true, ltb-false, leb-true, not-true, eqb-true}
+use lib.Dec.{eqb, ltb}
+use lib.ListN.{length, getD}
+use borrow.Author.Tests.{eq-eqb, ltb-true, ltb-false, not-true, eqb-true}
 use Rattle.slices.proofs.Bools.{by-test, both}
 use Rattle.slices.proofs.Below as below
-use Rattle.spelling.specs.declared.Matched.{Matched}
 use Rattle.spelling.specs.declared.Matched.the-variants.{Fits, Misfit}
 use Rattle.spelling.specs.declared.Scan.{Scan}
 use Rattle.spelling.specs.Spellings.{spellings, patternOf}
@@ -22,7 +20,7 @@ use Rattle.spelling.specs.internal.Rows.{beginsOf, NextRow}
 use Rattle.spelling.proofs.Scans.{scan-failed}
 
 -- a scan that has failed does not fit
-failed-misfits : (l p : List ℕ) (s : Scan) → s .ok ≡ false → fits l (scanOf l p s) ≡ false
+pub failed-misfits : (l p : List ℕ) (s : Scan) → s .ok ≡ false → fits l (scanOf l p s) ≡ false
 failed-misfits l p s e = rw (scan-failed l p s e, e)
 
 -- the byte at a place of a line, and whether there is one
@@ -72,9 +70,9 @@ three-differ l (c ∷ (d ∷ (e ∷ p))) i f h =
     let a = both (not (isPlace c)) (not (isPlace d)) (ab .0) in
     by-test (same-byte l i c)
     (λ x. ap (fits l) (first-same l (d ∷ (e ∷ p)) c i (not-true _ (a .0)) x) ∙ by-test (same-byte l (i + 1) d)
-        (λ y. ap (fits l) (first-same l (e ∷ p) d (i + 1) (not-true _ (a .1)) y)
-            ∙ first-differs l p e (i + 1 + 1) (not-true _ (ab .1)) (rw (x, y) at h))
-        (λ y. first-differs l (e ∷ p) d (i + 1) (not-true _ (a .1)) y))
+    (λ y. ap (fits l) (first-same l (e ∷ p) d (i + 1) (not-true _ (a .1)) y)
+    ∙ first-differs l p e (i + 1 + 1) (not-true _ (ab .1)) (rw (x, y) at h))
+    (λ y. first-differs l (e ∷ p) d (i + 1) (not-true _ (a .1)) y))
     (λ x. first-differs l (d ∷ (e ∷ p)) c i (not-true _ (a .0)) x)
 
 -- a row that doesn't begin with the line's bytes x, y and z
@@ -83,13 +81,13 @@ three-false : (l : List ℕ) (i x y z c d e : ℕ) → x ≡ getD l i 0 → y �
 three-false l i x y z c d e p q r h =
     by-test (three-same l i c d e)
     (λ t.
-      let u = both (same-byte l i c && same-byte l (i + 1) d) (same-byte l (i + 1 + 1) e) t in
-      let v = both (same-byte l i c) (same-byte l (i + 1) d) (u .0) in
-      let two : i + 1 + 1 ≡ i + 2 = omega arith in
-      let a : x ≡ c = p ∙ eqb-true _ _ (both (ltb i (length l)) _ (v .0) .1) in
-      let b : y ≡ d = q ∙ eqb-true _ _ (both (ltb (i + 1) (length l)) _ (v .1) .1) in
-      let g : z ≡ e = r ∙ ap (λ (j : ℕ). getD l j 0) (sym two) ∙ eqb-true _ _ (both (ltb (i + 1 + 1) (length l)) _ (u .1) .1) in
-      absurd (no (sym h ∙ rw (eq-eqb c x (sym a), eq-eqb d y (sym b), eq-eqb e z (sym g)))))
+    let u = both (same-byte l i c && same-byte l (i + 1) d) (same-byte l (i + 1 + 1) e) t in
+    let v = both (same-byte l i c) (same-byte l (i + 1) d) (u .0) in
+    let two : i + 1 + 1 ≡ i + 2 = omega arith in
+    let a : x ≡ c = p ∙ eqb-true _ _ (both (ltb i (length l)) _ (v .0) .1) in
+    let b : y ≡ d = q ∙ eqb-true _ _ (both (ltb (i + 1) (length l)) _ (v .1) .1) in
+    let g : z ≡ e = r ∙ ap (λ (j : ℕ). getD l j 0) (sym two) ∙ eqb-true _ _ (both (ltb (i + 1 + 1) (length l)) _ (u .1) .1) in
+    absurd (no (sym h ∙ rw (eq-eqb c x (sym a), eq-eqb d y (sym b), eq-eqb e z (sym g)))))
     (λ t. t)
 
 row-misfits : (l : List ℕ) (i : ℕ) {x y z : ℕ} → x ≡ getD l i 0 → y ≡ getD l (i + 1) 0 → z ≡ getD l (i + 2) 0
@@ -103,9 +101,9 @@ few-differ : (l : List ℕ) (i c d e : ℕ) → length l < i + 3 → three-same 
 few-differ l i c d e h =
     by-test (three-same l i c d e)
     (λ t.
-      let u = both (same-byte l i c && same-byte l (i + 1) d) (same-byte l (i + 1 + 1) e) t in
-      let v = ltb-true (i + 1 + 1) (length l) (both (ltb (i + 1 + 1) (length l)) _ (u .1) .0) in
-      absurd (omega arith))
+    let u = both (same-byte l i c && same-byte l (i + 1) d) (same-byte l (i + 1 + 1) e) t in
+    let v = ltb-true (i + 1 + 1) (length l) (both (ltb (i + 1 + 1) (length l)) _ (u .1) .0) in
+    absurd (omega arith))
     (λ t. t)
 
 few-misfit : (l : List ℕ) (i k : ℕ) → length l < i + 3 → k < 90 → fits l (readOf l i k) ≡ false
@@ -129,7 +127,7 @@ pub record Seeking (l : List ℕ) (i k : ℕ) : Type 0 where
   pub within : k ≤ 90
   pub left : matchedOf l i 0 90 ≡ matchedOf l i k (90 - k)
 
-skip-to : (l : List ℕ) (i k r : ℕ) → k ≤ r → r ≤ 90 → ((j : ℕ) → k ≤ j → j < r → fits l (readOf l i j) ≡ false)
+pub skip-to : (l : List ℕ) (i k r : ℕ) → k ≤ r → r ≤ 90 → ((j : ℕ) → k ≤ j → j < r → fits l (readOf l i j) ≡ false)
     → matchedOf l i k (90 - k) ≡ matchedOf l i r (90 - r)
 skip-to l i k r h g f =
     let e : k + (r - k) ≡ r = omega arith in
@@ -148,8 +146,8 @@ module _ (l : List ℕ) (i : ℕ) {x y z : ℕ} (p : x ≡ getD l i 0) (q : y �
   pub seek-goes : {k n : ℕ} {s : Scan} → Seeking l i k → k < 90 → s ≡ readOf l i k → fits l s ≡ false → NextRow (k + 1) x y z n → Seeking l i n
   seek-goes {k} {n} {s} w h e f t =
       let one : matchedOf l i k (90 - k) ≡ matchedOf l i (k + 1) (90 - (k + 1)) =
-            skip-to l i k (k + 1) (omega arith) (omega arith)
-            (λ j a b. let j=k : j ≡ k = omega arith in rw (j=k, ← e) f) in
+      skip-to l i k (k + 1) (omega arith) (omega arith)
+      (λ j a b. let j=k : j ≡ k = omega arith in rw (j=k, ← e) f) in
       record { within = t .within; left = w .left ∙ one ∙ skip-next t }
 
 pub seek-hits : {l : List ℕ} {i k : ℕ} {s : Scan} → Seeking l i k → k < 90 → s ≡ readOf l i k → fits l s ≡ true → Fits k (s .places) ≡ matchedOf l i 0 90

@@ -1,7 +1,5 @@
-use Rattle.spelling.specs.Reading.{literalOf, byteOf, scanOf}
-use mathlib.Core.Path.{_≡_, refl, sym, ap, _∙_}
-use native.Mathlib.Omega.{arith}
-use borrow.Author.Tests.{lt-ltb, le-ltb, le-leb, lt-leb, eq-eqb, ne-eqb}
+use Rattle.spelling.specs.Reading.{literalOf}
+use borrow.Author.Tests.{lt-ltb, le-ltb, eq-eqb, ne-eqb}
 use borrow.Author.Needs.{needs}
 use Rattle.spelling.proofs.literal.Statement.{statement}
 use Rattle.spelling.proofs.literal.Tie as tie

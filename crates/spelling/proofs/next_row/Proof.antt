@@ -1,9 +1,7 @@
 -- A row a turn: none of those passed over begins with the three bytes.
 -- Assumes nothing.
 use borrow.Author.Needs.{needs}
-use borrow.Author.Tests.{not-true}
 use mathlib.Core.Path.{sym, _∙_}
-use native.Mathlib.Omega.{arith}
 use Prim.Native.Nat.{_-_}
 use Rattle.spelling.specs.internal.Rows.{NextRow}
 use Rattle.spelling.proofs.Seeks.{next-starts, next-goes}

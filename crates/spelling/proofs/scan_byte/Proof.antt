@@ -1,9 +1,6 @@
 use borrow.Author.Tests.{not-true, not-false}
 use native.Mathlib.Nat.{add-sub-cancel-left}
-use Rattle.spelling.specs.Reading.{literalOf, byteOf, scanOf}
-use mathlib.Core.Path.{_≡_, refl, sym, ap, _∙_}
-use native.Mathlib.Omega.{arith}
-use borrow.Author.Tests.{lt-ltb, le-ltb, le-leb, lt-leb, eq-eqb, ne-eqb}
+use Rattle.spelling.specs.Reading.{byteOf}
 use borrow.Author.Needs.{needs}
 use Rattle.spelling.proofs.scan_byte.Statement.{statement}
 use Rattle.spelling.proofs.scan_byte.Tie as tie

@@ -1,11 +1,8 @@
 use Rattle.spelling.proofs.Scans.{Scanning, scan-start, scan-stop, scan-dot, scan-full, scan-pass}
 use Rattle.spelling.specs.Reading.{scanned, emptyPlaces, readOf}
-use borrow.Author.Tests.{not-true, not-false}
+use borrow.Author.Tests.{not-true}
 use Prim.Native.Nat.{_-_}
 use borrow.Author.Needs.{needs}
-use mathlib.Core.Path.{_≡_, refl, sym, ap, _∙_}
-use native.Mathlib.Omega.{arith}
-use borrow.Author.Tests.{lt-ltb, le-ltb, le-leb, lt-leb, eq-eqb, ne-eqb}
 use Rattle.spelling.proofs.scan_row.Statement.{statement}
 use Rattle.spelling.proofs.scan_row.Tie as tie
 

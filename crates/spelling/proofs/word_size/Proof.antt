@@ -1,8 +1,7 @@
 use Rattle.spelling.proofs.Runs.{Running, run-start, run-stop, run-pass, run-end}
 use borrow.Author.Tests.{not-true, not-false}
 use borrow.Author.Needs.{needs}
-use mathlib.Core.Path.{_≡_, refl, sym, ap, _∙_}
-use native.Mathlib.Omega.{arith}
+use mathlib.Core.Path.{sym, _∙_}
 use Prim.Native.Nat.{_-_}
 use Rattle.spelling.proofs.word_size.Statement.{statement}
 use Rattle.spelling.proofs.word_size.Tie as tie
