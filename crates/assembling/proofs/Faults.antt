@@ -35,7 +35,7 @@ each-first number f (l ∷ ls) k rest h =
     by-test (f l k) (λ e. rw (e, ne-eqb k 0 (omega arith))) (λ e. rw e (each-first number f ls (k + 1) rest (omega arith)))
 
 -- the fault of a text by what the searches find
-fault-is : (t : List ℕ) → textFault t
+pub fault-is : (t : List ℕ) → textFault t
     ≡ cond (eqb (badLine t) 0) (cond (eqb (badLabel t) 0) (cond (ltb 256 (wordCount (linesOf t))) 26 0) (25 + 256 * badLabel t)) (24 + 256 * badLine t)
 unfolding textFault firstBroken
 fault-is t =
@@ -135,7 +135,7 @@ bad-fault : (t ops args : List ℕ) → badBank ops || badBank args ≡ true →
 unfolding faultOf firstBroken
 bad-fault t ops args e = rw e
 
-good-fault : (t ops args : List ℕ) → badBank ops || badBank args ≡ false → faultOf t ops args ≡ textFault t
+pub good-fault : (t ops args : List ℕ) → badBank ops || badBank args ≡ false → faultOf t ops args ≡ textFault t
 unfolding faultOf firstBroken textFault
 good-fault t ops args e = rw e
 

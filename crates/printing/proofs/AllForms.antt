@@ -21,7 +21,7 @@ module _ {A : Type 0} (P : A → Type 0) where
   all-append [] ys a b = b
   all-append (x ∷ xs) ys a b = (a .0, all-append xs ys (a .1) b)
 
-  all-at : (l : List A) (d : A) → All l → P d → (n : ℕ) → P (getD l n d)
+  pub all-at : (l : List A) (d : A) → All l → P d → (n : ℕ) → P (getD l n d)
   all-at [] d h p n = p
   all-at (x ∷ l) d h p zero = h .0
   all-at (x ∷ l) d h p (suc n) = all-at l d (h .1) p n

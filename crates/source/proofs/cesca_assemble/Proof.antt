@@ -1,0 +1,14 @@
+use borrow.Author.Needs.{needs}
+use Rattle.spelling.proofs.OneRow.{one-row}
+use Rattle.source.proofs.Printed.{reads-printed}
+use Rattle.source.proofs.cesca_assemble.Statement.{statement}
+use Rattle.source.proofs.cesca_assemble.Tie as tie
+
+pub cesca-assemble-spec : {M : Type 1} → statement M
+cesca-assemble-spec =
+    tie.close
+    (tie.spec
+    (λ c κs. search needs)
+    (λ c. search needs)
+    (λ c. search needs)
+    (λ c. record { assembles = c .before .before .before .before .assemble .ensures; reads-printed = reads-printed _; one-row = one-row }))
