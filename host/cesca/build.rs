@@ -1,4 +1,4 @@
-//! Links the proved library: `libboundary.a`, `libruns.a` and `libadmission.a`.
+//! Links the proved library: `libboundary.a`, `libruns.a`, `libadmission.a` and `libsource.a`.
 //!
 //! They are looked for in `../../target/staticlib`, or in the directory that `CESCA_LIB` names. A
 //! relative one is taken from this package's directory, `host/cesca`.
@@ -7,7 +7,7 @@ use std::env;
 use std::path::{Path, PathBuf};
 
 /// The crates whose archives are linked.
-const CRATES: [&str; 3] = ["boundary", "runs", "admission"];
+const CRATES: [&str; 4] = ["boundary", "runs", "admission", "source"];
 
 fn main() {
     println!("cargo:rerun-if-env-changed=CESCA_LIB");

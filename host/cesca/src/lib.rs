@@ -88,6 +88,7 @@ mod raw;
 #[cfg(test)]
 mod samples;
 mod sheet;
+mod source;
 mod text;
 
 pub use admitted::Admitted;
@@ -97,4 +98,5 @@ pub use calls::{admit, alu, decode, encode, facts, put, run, running_time};
 pub use cesca_types::*;
 pub use listing::Listing;
 pub use sheet::{Routine, SheetWord};
+pub use source::{assemble, assemble_into, print, SourceRefusal};
 pub use text::{instruction_text, TextError};

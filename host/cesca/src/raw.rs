@@ -2,6 +2,7 @@
 
 pub mod admit;
 pub mod run;
+pub mod source;
 
 use cesca_types::{AluAnswer, Class, Effect, Facts, Fields, Overflow, Refusal};
 use std::fmt::Display;

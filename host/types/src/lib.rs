@@ -7,9 +7,11 @@ mod answers;
 mod limits;
 mod machine;
 mod refusal;
+mod source;
 
 pub use answers::{AluAnswer, Class, Effect, Facts, Fields, Overflow};
 pub use limits::{BANK, MOST_LIST, MOST_READ, MOST_ROUTINES, SHEET};
 pub use limits::{FASTEST_CLOCK, MOST_CYCLES, MOST_STEPS};
 pub use machine::{Flags, Lent, Report, State, Stop};
 pub use refusal::Refusal;
+pub use source::Assembled;
