@@ -1,9 +1,11 @@
 //! Instructions and listings as text that members type: the proved printer and assembler.
 
+mod explain;
 mod refusal;
 
 use crate::raw::source::{cesca_assemble, cesca_print};
 use cesca_types::{Assembled, Fields, Refusal, BANK};
+use explain::explained;
 pub use refusal::SourceRefusal;
 
 /// The instruction as the CESCA document spells it, with small mnemonics and decimal numbers, or
@@ -34,6 +36,12 @@ pub fn assemble_into(
     opcodes: &mut [u8],
     arguments: &mut [u8],
 ) -> Result<usize, SourceRefusal> {
+    let banks = [opcodes.len(), arguments.len()];
+    decide(text, opcodes, arguments).map_err(|refusal| explained(refusal, text, banks))
+}
+
+/// The same, with the general words of a refusal.
+fn decide(text: &[u8], opcodes: &mut [u8], arguments: &mut [u8]) -> Result<usize, SourceRefusal> {
     // SAFETY: each pointer comes with the length of the slice behind it, and the banks are borrowed
     // for writing during the call, so they overlap nothing.
     let answer = unsafe {

@@ -21,6 +21,11 @@ impl SourceRefusal {
         SourceRefusal { refusal: Refusal::of_call(number), line }
     }
 
+    /// The same with other words for what is wrong.
+    pub(crate) fn with_words(self, words: String) -> SourceRefusal {
+        SourceRefusal { refusal: self.refusal.with_words(words), ..self }
+    }
+
     /// The ground's number: 1 for the banks, 24 to 26 for the text.
     pub fn number(&self) -> u8 {
         self.refusal.number()

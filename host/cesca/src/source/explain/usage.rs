@@ -1,0 +1,124 @@
+//! What a mnemonic takes: asked of the library, by lines that it takes or refuses. 24.
+
+use super::due::Due::{self, Address, AtAddress, AtRegister, Name, Number, Register};
+use super::quote::shown;
+use crate::source::decide;
+use cesca_types::BANK;
+
+const NONE: Due = Name("NONE");
+const IN: Due = Name("IN");
+const ACK: Due = Name("Ack");
+const OUT: Due = Name("OUT");
+const LCD: Due = Name("LCD");
+const LCD_COMMAND: Due = Name("LCDcmd");
+const INIT: Due = Name("Init");
+const CLR: Due = Name("Clr");
+
+/// The operands that go together in some instruction or macro, those alike behind one another.
+const USAGES: [&[Due]; 26] = [
+    &[],
+    &[Register],
+    &[Address],
+    &[Register, Register],
+    &[Register, Number],
+    &[Register, IN],
+    &[Register, AtAddress],
+    &[Register, AtRegister],
+    &[NONE, Register],
+    &[IN, Number],
+    &[IN, ACK],
+    &[AtAddress, Register],
+    &[AtRegister, Register],
+    &[OUT, Register],
+    &[OUT, AtAddress],
+    &[LCD, Register],
+    &[LCD, Number],
+    &[LCD, AtAddress],
+    &[LCD_COMMAND, Number],
+    &[LCD_COMMAND, INIT],
+    &[LCD_COMMAND, CLR],
+    &[Register, Register, Register],
+    &[Register, Register, Number],
+    &[Register, Register, Address],
+    &[Register, Number, Address],
+    &[NONE, Register, Register],
+];
+
+/// The most letters of a word that the library is asked about as a mnemonic.
+const MOST: usize = 12;
+
+/// Whether a line is an instruction or macro, if the label that it uses is given elsewhere.
+pub fn is_line(line: &str) -> bool {
+    let answer = decide(line.as_bytes(), &mut [0; BANK], &mut [0; BANK]);
+    answer.map_or_else(|refusal| refusal.number() != 24, |_| true)
+}
+
+/// The line with this mnemonic and these operands.
+pub fn spelled(mnemonic: &str, operands: &[&str]) -> String {
+    let space = if operands.is_empty() { "" } else { " " };
+    format!("{mnemonic}{space}{}", operands.join(", "))
+}
+
+/// Whether there are lines with this mnemonic.
+pub fn is_known(mnemonic: &str) -> bool {
+    mnemonic.len() <= MOST && usages(mnemonic).next().is_some()
+}
+
+/// What is wrong with operands that are right by themselves: how many they are, or the first that
+/// doesn't fit behind those before it.
+pub fn misfit(mnemonic: &str, operands: &[&str]) -> Option<String> {
+    let (alike, others): (Vec<_>, Vec<_>) =
+        usages(mnemonic).partition(|usage| usage.len() == operands.len());
+    let fitting = |usage: &[Due]| {
+        let pairs = usage.iter().zip(operands);
+        pairs.take_while(|(due, operand)| due.fits(operand)).count()
+    };
+    let Some(most) = alike.iter().map(|usage| fitting(usage)).max() else {
+        return Some(other_number(mnemonic, &others, operands.len()));
+    };
+    let operand = operands.get(most)?;
+    let due = alike.iter().filter(|usage| fitting(usage) == most).map(|usage| usage[most]);
+    Some(misplaced(operand, due.collect()))
+}
+
+/// The usages that make a line with this mnemonic.
+fn usages(mnemonic: &str) -> impl Iterator<Item = &'static [Due]> + '_ {
+    USAGES.into_iter().filter(move |usage| {
+        let operands: Vec<&str> = usage.iter().map(|due| due.sample()).collect();
+        is_line(&spelled(mnemonic, &operands))
+    })
+}
+
+/// So many operands where other numbers are due.
+fn other_number(mnemonic: &str, usages: &[&[Due]], number: usize) -> String {
+    let mut due: Vec<usize> = usages.iter().map(|usage| usage.len()).collect();
+    due.dedup();
+    match due[..] {
+        [0] => format!("{mnemonic} takes no operand"),
+        [1] => format!("{mnemonic} takes 1 operand, not {number}"),
+        _ => format!("{mnemonic} takes {} operands, not {number}", any_of(&due)),
+    }
+}
+
+/// An operand where others are due.
+fn misplaced(operand: &str, mut due: Vec<Due>) -> String {
+    if let Some(name) = due.iter().find_map(|due| due.other_case(operand)) {
+        return format!("{} is spelled {name}", shown(operand));
+    }
+    due.dedup();
+    if due.contains(&Address) {
+        // A number is an address too.
+        due.retain(|due| *due != Number);
+    }
+    format!("{} stands where {} is due", shown(operand), any_of(&due))
+}
+
+/// These one after another, the last behind `or`.
+fn any_of(items: &[impl ToString]) -> String {
+    let mut items: Vec<String> = items.iter().map(ToString::to_string).collect();
+    let last = items.pop().unwrap_or_default();
+    if items.is_empty() {
+        return last;
+    }
+    format!("{} or {last}", items.join(", "))
+}
