@@ -43,7 +43,7 @@ impl<'a> Address<'a> {
     }
 
     /// The mnemonic of the instruction.
-    pub fn mnemonic(&self) -> &'static str {
+    pub fn mnemonic(&self) -> String {
         mnemonic(self.fields)
     }
 

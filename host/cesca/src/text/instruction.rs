@@ -1,156 +1,30 @@
-//! Instructions spelled as in the CESCA document, with decimal numbers.
+//! Instructions as the proved printer spells them.
 
+use crate::source::print;
 use cesca_types::Fields;
-use Operand::{AtNumber, AtRa, AtRb, Name, Number, Ra, Rb, Rd};
 
-/// An operand of an instruction.
-#[derive(Clone, Copy)]
-enum Operand {
-    /// The destination register.
-    Rd,
-    /// The first operand's register.
-    Ra,
-    /// The second operand's register.
-    Rb,
-    /// The immediate value or the address.
-    Number,
-    /// The data at the address.
-    AtNumber,
-    /// The data that Ra points to.
-    AtRa,
-    /// The data that Rb points to.
-    AtRb,
-    /// What has a name of its own.
-    Name(&'static str),
-}
+/// The highest number of a register.
+const LAST_REGISTER: u8 = 3;
 
-/// The mnemonic of a row whose name and last operands are those of the ALU's function.
-const ALU: &str = "ALU";
+/// The highest number of an ALU function.
+const LAST_FUNCTION: u8 = 15;
 
-const NONE: Operand = Name("NONE");
-const IN: Operand = Name("IN");
-const ACK: Operand = Name("Ack");
-const LCD_COMMAND: Operand = Name("LCDcmd");
-const LCD: Operand = Name("LCD");
-const OUT: Operand = Name("OUT");
-
-/// Mnemonics and operands in the order of the instruction table.
-const FORMS: [(&str, &[Operand]); 40] = [
-    (ALU, &[Rd]),
-    ("add", &[Rd, Ra, Number]),
-    (ALU, &[NONE]),
-    ("cmp", &[Ra, Number]),
-    ("mask", &[Ra, Number]),
-    ("mask", &[IN, Number]),
-    ("mov", &[Rd, Number]),
-    ("mov", &[Rd, IN]),
-    ("mov", &[IN, ACK]),
-    ("mov", &[AtNumber, Ra]),
-    ("mov", &[AtRb, Ra]),
-    ("push", &[Ra]),
-    ("mov", &[Rd, AtNumber]),
-    ("mov", &[Rd, AtRa]),
-    ("pop", &[Rd]),
-    ("swap", &[Rd, Ra]),
-    ("jmp", &[Number]),
-    ("jmp", &[Ra]),
-    ("call", &[Number]),
-    ("ret", &[]),
-    ("jz", &[Number]),
-    ("jnz", &[Number]),
-    ("jc", &[Number]),
-    ("jnc", &[Number]),
-    ("jv", &[Number]),
-    ("jnv", &[Number]),
-    ("jlz", &[Number]),
-    ("jp", &[Number]),
-    ("jgz", &[Number]),
-    ("jleu", &[Number]),
-    ("jlt", &[Number]),
-    ("jle", &[Number]),
-    ("mov", &[LCD_COMMAND, Number]),
-    ("mov", &[LCD, Number]),
-    ("mov", &[LCD, Ra]),
-    ("mov", &[LCD, AtNumber]),
-    ("mov", &[OUT, Ra]),
-    ("mov", &[OUT, AtNumber]),
-    ("hlt", &[]),
-    ("nop", &[]),
-];
-
-/// Mnemonics of the ALU's functions by number, and the operands behind the destination.
-const FUNCTIONS: [(&str, &[Operand]); 16] = [
-    ("mov", &[Rb]),
-    ("add", &[Ra, Rb]),
-    ("sub", &[Ra, Rb]),
-    ("addc", &[Ra, Rb]),
-    ("subb", &[Ra, Rb]),
-    ("and", &[Ra, Rb]),
-    ("or", &[Ra, Rb]),
-    ("not", &[Ra]),
-    ("xor", &[Ra, Rb]),
-    ("nand", &[Ra, Rb]),
-    ("nor", &[Ra, Rb]),
-    ("xnor", &[Ra, Rb]),
-    ("sll", &[Ra]),
-    ("srl", &[Ra]),
-    ("sra", &[Ra]),
-    ("rol", &[Ra]),
-];
-
-/// The instruction as the CESCA document spells it, with decimal numbers: `mov R0, 5`.
+/// The instruction as [`print`] spells it, for fields that [`decode`](crate::decode) gave.
 ///
-/// A form over 39 is taken as 39, a function number over 15 as 15; a register number over 3 is
-/// shown as it is.
+/// A register number over 3 is taken as 3, a function number over 15 as 15, so that no fields are
+/// refused.
 pub fn instruction_text(fields: Fields) -> String {
-    let (name, operands, more) = spelling(fields);
-    let operands = operands.iter().chain(more).map(|operand| operand.text(fields));
-    let operands = operands.collect::<Vec<_>>().join(", ");
-    if operands.is_empty() {
-        name.to_string()
-    } else {
-        format!("{name} {operands}")
-    }
+    let Fields { form, d, a, f, b, imm } = fields;
+    let [d, a, b] = [d, a, b].map(|register| register.min(LAST_REGISTER));
+    let fields = Fields { form, d, a, f: f.min(LAST_FUNCTION), b, imm };
+    print(fields).unwrap_or_else(|refusal| panic!("{fields:?} is refused: {refusal}"))
 }
 
 /// The mnemonic of an instruction: `mov`.
-pub fn mnemonic(fields: Fields) -> &'static str {
-    spelling(fields).0
-}
-
-/// The mnemonic, the operands of the form, and those of the ALU's function behind them.
-fn spelling(fields: Fields) -> (&'static str, &'static [Operand], &'static [Operand]) {
-    let (name, operands) = row(&FORMS, fields.form);
-    if name != ALU {
-        return (name, operands, &[]);
-    }
-    let (name, more) = row(&FUNCTIONS, fields.f);
-    (name, operands, more)
-}
-
-/// The row of a table with this number, or the last one.
-fn row(
-    table: &[(&'static str, &'static [Operand])],
-    number: u8,
-) -> (&'static str, &'static [Operand]) {
-    table[usize::from(number).min(table.len() - 1)]
-}
-
-impl Operand {
-    /// The operand's text in an instruction with these fields.
-    fn text(self, fields: Fields) -> String {
-        let Fields { d, a, b, imm, .. } = fields;
-        match self {
-            Rd => format!("R{d}"),
-            Ra => format!("R{a}"),
-            Rb => format!("R{b}"),
-            Number => imm.to_string(),
-            AtNumber => format!("[{imm}]"),
-            AtRa => format!("[R{a}]"),
-            AtRb => format!("[R{b}]"),
-            Name(name) => name.to_string(),
-        }
-    }
+pub fn mnemonic(fields: Fields) -> String {
+    let mut text = instruction_text(fields);
+    text.truncate(text.find(' ').unwrap_or(text.len()));
+    text
 }
 
 #[cfg(test)]
@@ -217,8 +91,16 @@ mod tests {
 
     #[test]
     fn fields_that_no_word_has() {
-        let fields = Fields { form: 0, d: 4, a: 255, f: 16, b: 0, imm: 0 };
-        assert_eq!(instruction_text(fields), "rol R4, R255");
+        let fields = Fields { form: 0, d: 4, a: 255, f: 16, b: 4, imm: 0 };
+        assert_eq!(instruction_text(fields), "rol R3, R3");
+        assert_eq!(instruction_text(Fields { form: 10, ..fields }), "mov [R3], R3");
         assert_eq!(instruction_text(Fields { form: 40, ..fields }), "nop");
+    }
+
+    #[test]
+    fn mnemonics() {
+        assert_eq!(mnemonic(decode([0x30, 0x05])), "mov");
+        assert_eq!(mnemonic(decode([0x20, 0xB0])), "xnor");
+        assert_eq!(mnemonic(decode([0xF8, 0x00])), "hlt");
     }
 }
