@@ -1,6 +1,7 @@
 //! The program's commands, from the words typed to its status.
 
 mod admit;
+mod assemble;
 mod bar;
 mod commands;
 mod console;
@@ -10,7 +11,9 @@ mod help;
 mod input;
 mod keys;
 mod options;
+mod output;
 mod owners;
+mod print;
 mod roll;
 mod run;
 mod sheet;

@@ -3,7 +3,7 @@
 use super::console::Console;
 use super::failure::Failure;
 use super::options::Options;
-use super::{admit, file, run, sheet, step};
+use super::{admit, assemble, file, print, run, sheet, step};
 use std::ops::RangeInclusive;
 
 /// A command.
@@ -31,7 +31,7 @@ impl Command {
 }
 
 /// The commands, in the order of the help.
-pub static COMMANDS: [Command; 5] = [
+pub static COMMANDS: [Command; 7] = [
     Command {
         name: "admit",
         files: "FILE..",
@@ -76,6 +76,29 @@ pub static COMMANDS: [Command; 5] = [
             "line makes a step, a number makes that many, and q ends.",
         ],
         run: step::step,
+    },
+    Command {
+        name: "assemble",
+        files: "SOURCE [BANKS]",
+        number: 1..=2,
+        options: &[],
+        about: &[
+            "Makes the banks of a text of instructions, or tells what is wrong with its",
+            "first wrong line. Without BANKS, the words are shown for keying in: address,",
+            "then opcode and argument in hexadecimal, then the instruction.",
+        ],
+        run: assemble::assemble,
+    },
+    Command {
+        name: "print",
+        files: "BANKS|FILE",
+        number: 1..=1,
+        options: &[],
+        about: &[
+            "Prints the instruction of each word up to the last that isn't 00 00, as text",
+            "that can be assembled.",
+        ],
+        run: print::print,
     },
     Command {
         name: "file",

@@ -1,6 +1,7 @@
 //! What can keep the program from doing what it is asked.
 
-use cesca::{Refusal, TextError};
+use cesca::TextError;
+use std::error::Error;
 use std::ffi::OsStr;
 use std::fmt::{self, Display, Formatter};
 use std::io::{self, ErrorKind};
@@ -34,12 +35,12 @@ impl Failure {
         Failure::File(format!("{}: {}", name.display(), plain(error)))
     }
 
-    /// The refusal of a file's listing, or of a call for it.
-    pub fn of_refusal(name: &OsStr, refusal: &Refusal) -> Failure {
+    /// The refusal of a file's listing, of its source, or of a call for it.
+    pub fn of_refusal(name: &OsStr, refusal: &impl Error) -> Failure {
         Failure::Refused(format!("{}: refused {refusal}", name.display()))
     }
 
-    /// The refusal of a file's text.
+    /// The refusal of a listing's text.
     pub fn of_text(name: &OsStr, error: &TextError) -> Failure {
         Failure::Refused(format!("{}: {error}", name.display()))
     }

@@ -5,11 +5,13 @@ use super::console::Console;
 use super::failure::Failure;
 use std::io::Write;
 
-/// What FILE and TEXT are, and what the status tells.
+/// What the files are, and what the status tells.
 const NOTES: &str = "
 FILE is a listing as the desk reads it, TEXT one as in listings/README.md.
+SOURCE has an instruction on each line, and BANKS has 256 opcodes and 256
+arguments, with which a FILE begins too.
 - is standard input (not for `cesca step`, which reads its steps there); for the
-FILE that `cesca file` makes, it is standard output.
+file that `cesca file` or `cesca assemble` makes, it is standard output.
 
 The status is 0 if all went well, 1 if something was refused, 2 if usage or
 input was wrong.";

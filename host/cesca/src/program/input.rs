@@ -20,12 +20,17 @@ pub fn bytes(name: &OsStr) -> Result<Vec<u8>, Failure> {
 
 /// The text of a file, if it isn't too long and is UTF-8.
 pub fn text(name: &OsStr) -> Result<String, Failure> {
+    String::from_utf8(source(name)?).map_err(|error| Failure::of_text(name, &not_utf8(&error)))
+}
+
+/// The bytes of a text, if it isn't too long.
+pub fn source(name: &OsStr) -> Result<Vec<u8>, Failure> {
     let bytes = read(name, MOST_TEXT + 1)?;
     if bytes.len() > MOST_TEXT {
         let reason = "over 1,048,576 bytes, too long for a listing";
         return Err(Failure::File(format!("{}: {reason}", name.display())));
     }
-    String::from_utf8(bytes).map_err(|error| Failure::of_text(name, &not_utf8(&error)))
+    Ok(bytes)
 }
 
 /// The listing in a file of these bytes, or the refusal of its length.

@@ -2,8 +2,10 @@
 //! from the papers and from `listings/README.md`.
 
 mod admit;
+mod assemble;
 mod file;
 mod pipes;
+mod print;
 mod readme;
 mod run;
 mod sandbox;

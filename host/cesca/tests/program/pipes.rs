@@ -8,11 +8,14 @@ use std::process::Stdio;
 /// A listing that never stops.
 const ENDLESS: &str = "routine 0 at 0 need 0\n0 8000 A0 00 jmp 0";
 
-/// A directory with a listing that is admitted, one that is refused, one without an end, and a
-/// text.
+/// A directory with a listing that is admitted, one that is refused, one without an end, its text,
+/// and its source.
 fn sandbox(test: &str) -> Sandbox {
     let sandbox = Sandbox::new(test).with_stored(&["pushes.bin", "masked.bin"]);
-    sandbox.with_listing("endless.bin", ENDLESS).with("mine.txt", ENDLESS)
+    sandbox
+        .with_listing("endless.bin", ENDLESS)
+        .with("mine.txt", ENDLESS)
+        .with("source.txt", "jmp 0")
 }
 
 #[test]
@@ -26,6 +29,10 @@ fn a_closed_pipe_ends_every_command_quietly() {
         (&["sheet", "masked.bin"], 1),
         (&["step", "pushes.bin"], 0),
         (&["file", "mine.txt", "-"], 0),
+        (&["assemble", "source.txt"], 0),
+        (&["assemble", "source.txt", "-"], 0),
+        (&["assemble", "source.txt", "made.banks"], 0),
+        (&["print", "pushes.bin"], 0),
     ] {
         let (reader, writer) = io::pipe().expect("a pipe");
         drop(reader);

@@ -20,13 +20,14 @@ fn asking_changes_no_file_and_makes_none() {
     let sandbox = Sandbox::new("untouched").with_stored(&["a.bin", "masked.bin"]);
     let sandbox = sandbox.with("short.bin", "short").with("mine.txt", "routine 0 at 0 need 0");
     let before = files(&sandbox);
-    for command in ["admit", "run", "sheet", "step"] {
+    for command in ["admit", "run", "sheet", "step", "assemble", "print"] {
         for name in ["a.bin", "masked.bin", "short.bin", "mine.txt", "none.bin"] {
             sandbox.cesca_given(&[command, name], "\n9\n");
         }
     }
     sandbox.cesca(&["file", "short.bin", "made.bin"]);
     sandbox.cesca(&["file", "none.txt", "made.bin"]);
+    sandbox.cesca(&["assemble", "short.bin", "made.banks"]);
     sandbox.cesca(&["help"]);
     assert!(files(&sandbox) == before);
 }

@@ -3,11 +3,13 @@
 use crate::sandbox::{expect_err, expect_out, Sandbox};
 
 /// The usage lines of the commands.
-const COMMANDS: [&str; 6] = [
+const COMMANDS: [&str; 8] = [
     "cesca admit FILE..",
     "cesca run FILE [--keys 1,2,3] [--steps N] [--hz N]",
     "cesca sheet FILE",
     "cesca step FILE [--keys 1,2,3]",
+    "cesca assemble SOURCE [BANKS]",
+    "cesca print BANKS|FILE",
     "cesca file TEXT FILE",
     "cesca help",
 ];
@@ -40,6 +42,7 @@ fn help_tells_limits_and_standard_input() {
     for told in [
         "With --hz N, the time at this clock is told; N is whole, 1 to 1,000,000.",
         "- is standard input (not for `cesca step`, which reads its steps there)",
+        "for the file that `cesca file` or `cesca assemble` makes, it is standard output.",
         "1 if something was refused, 2 if usage or input was wrong.",
     ] {
         assert!(help.contains(told), "{told}");
@@ -48,12 +51,12 @@ fn help_tells_limits_and_standard_input() {
 
 #[test]
 fn no_command() {
-    check(&[], "a command is missing", "cesca admit|run|sheet|step|file|help ..");
+    check(&[], "a command is missing", "cesca admit|run|sheet|step|assemble|print|file|help ..");
 }
 
 #[test]
 fn other_commands() {
-    let usage = "cesca admit|run|sheet|step|file|help ..";
+    let usage = "cesca admit|run|sheet|step|assemble|print|file|help ..";
     check(&["mine.bin"], "there is no command mine.bin", usage);
     check(&["Admit", "a.bin"], "there is no command Admit", usage);
     check(&["--keys", "1"], "there is no command --keys", usage);
@@ -62,7 +65,7 @@ fn other_commands() {
 
 #[test]
 fn too_few_or_too_many_files() {
-    let [admit, run, sheet, step, file, _] = COMMANDS;
+    let [admit, run, sheet, step, assemble, print, file, _] = COMMANDS;
     check(&["admit"], "admit takes FILE..", admit);
     check(&["run"], "run takes FILE", run);
     check(&["run", "--steps", "5"], "run takes FILE", run);
@@ -71,19 +74,25 @@ fn too_few_or_too_many_files() {
     check(&["sheet", "a.bin", "a.bin"], "sheet takes FILE", sheet);
     check(&["step"], "step takes FILE", step);
     check(&["step", "a.bin", "5"], "step takes FILE", step);
+    check(&["assemble"], "assemble takes SOURCE [BANKS]", assemble);
+    check(&["assemble", "a", "b", "c"], "assemble takes SOURCE [BANKS]", assemble);
+    check(&["print"], "print takes BANKS|FILE", print);
+    check(&["print", "a.bin", "a.bin"], "print takes BANKS|FILE", print);
     check(&["file", "mine.txt"], "file takes TEXT FILE", file);
     check(&["file", "a", "b", "c"], "file takes TEXT FILE", file);
 }
 
 #[test]
 fn other_options() {
-    let [admit, run, sheet, step, file, _] = COMMANDS;
+    let [admit, run, sheet, step, assemble, print, file, _] = COMMANDS;
     check(&["admit", "--keys", "1", "a.bin"], "admit has no option --keys", admit);
     check(&["run", "a.bin", "--clock", "5"], "run has no option --clock", run);
     check(&["run", "a.bin", "--hz=5"], "run has no option --hz=5", run);
     check(&["run", "a.bin", "-k", "5"], "run has no option -k", run);
     check(&["sheet", "--", "a.bin"], "sheet has no option --", sheet);
     check(&["step", "a.bin", "--steps", "5"], "step has no option --steps", step);
+    check(&["assemble", "-o", "b", "a"], "assemble has no option -o", assemble);
+    check(&["print", "a.bin", "--hex"], "print has no option --hex", print);
     check(&["file", "a", "b", "--hz", "5"], "file has no option --hz", file);
 }
 

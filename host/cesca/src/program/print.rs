@@ -1,0 +1,30 @@
+//! `cesca print`: the words of banks as text.
+
+use super::console::Console;
+use super::failure::Failure;
+use super::input;
+use super::options::Options;
+use cesca::{decode, instruction_text, Refusal, BANK};
+use std::io::Write;
+
+/// Writes the instruction of each word up to the last that isn't 00 00.
+pub fn print(console: &mut Console, options: &Options) -> Result<(), Failure> {
+    let name = &options.files[0];
+    let words = words(&input::bytes(name)?);
+    let words = words.map_err(|refusal| Failure::of_refusal(name, &refusal))?;
+    let used = words.iter().rposition(|word| *word != [0, 0]).map_or(0, |last| last + 1);
+    for word in &words[..used] {
+        writeln!(console, "{}", instruction_text(decode(*word)))?;
+    }
+    Ok(())
+}
+
+/// The words of the banks with which a file begins, or the refusal of its length.
+fn words(file: &[u8]) -> Result<Vec<[u8; 2]>, Refusal> {
+    let Some((banks, _)) = file.split_at_checked(2 * BANK) else {
+        let words = format!("there are {} bytes, and banks have {}", file.len(), 2 * BANK);
+        return Err(Refusal::of_call(1).with_words(words));
+    };
+    let (opcodes, arguments) = banks.split_at(BANK);
+    Ok(opcodes.iter().zip(arguments).map(|(opcode, argument)| [*opcode, *argument]).collect())
+}
