@@ -1,11 +1,12 @@
-//! The stored listings beside their text in the README. `cargo run --example store` stores them.
+//! The stored listings beside their source and their text in the README. `cargo run --example store`
+//! stores them.
 
 #[path = "common/described.rs"]
 mod described;
 #[path = "common/stored.rs"]
 mod stored;
 
-use cesca::admit;
+use cesca::{admit, assemble, Assembled, BANK};
 use described::{described, file, Described};
 use reference::Listing;
 use stored::{names, path, read, text};
@@ -31,6 +32,19 @@ fn each_file_holds_the_listing_that_is_described() {
     for Described { name, listing, .. } in described() {
         assert!(read(&file(&name)) == listing.file(), "{name}.bin is another listing");
     }
+}
+
+#[test]
+fn each_source_is_assembled_to_the_banks_of_its_file() {
+    for Described { name, source, .. } in described() {
+        let assembled = assemble(source.as_bytes());
+        let Assembled { opcodes, arguments, words } =
+            assembled.unwrap_or_else(|refusal| panic!("{name}: {refusal}"));
+        let banks = [opcodes, arguments].concat();
+        assert!(read(&file(&name))[..2 * BANK] == banks, "{name}.bin has other banks");
+        assert_eq!(words, source.lines().count(), "{name}: each line stands for a word");
+    }
+    assert_eq!(names(&path("../listings"), ".txt"), ["pushes"], "others stand in the README");
 }
 
 #[test]
@@ -62,7 +76,7 @@ fn the_references_print_what_is_described() {
 
 #[test]
 fn the_library_answers_what_is_described() {
-    for Described { name, listing, printed } in described() {
+    for Described { name, listing, printed, .. } in described() {
         let Listing { opcodes, arguments, sheet, list } = &listing;
         let found = admit(opcodes, arguments, sheet, list);
         assert_eq!(found.map_err(|refusal| refusal.answer()), answer(&printed), "{name}");
