@@ -16,9 +16,9 @@
 //! }
 //! ```
 //!
-//! A listing written as text is read by [`Listing::from_text`], and a text that is no listing gives
-//! a [`TextError`]; [`instruction_text`] spells an instruction. A [`Refusal`] has a number, a place
-//! and words. Listing A of the scope paper is admitted, and it isn't with a need of 1 for routine 0:
+//! A listing written as text with its sheet is read by [`Listing::from_text`], and a text that is no
+//! listing gives a [`TextError`]. A [`Refusal`] has a number, a place and words. Listing A of the
+//! scope paper is admitted, and it isn't with a need of 1 for routine 0:
 //!
 //! ```
 //! # fn main() -> Result<(), Box<dyn std::error::Error>> {
@@ -50,8 +50,34 @@
 //! # }
 //! ```
 //!
-//! If you keep your own buffers, call [`admit`] and [`run`] on them, and [`decode`], [`encode`] and
-//! [`put`] on single instructions:
+//! The source that members type, an instruction or macro on each line, is made into banks by
+//! [`assemble`]; a [`SourceRefusal`] has a number, a line and words. [`print`] spells an instruction:
+//!
+//! ```
+//! # fn main() -> Result<(), Box<dyn std::error::Error>> {
+//! use cesca::{assemble, decode, print};
+//!
+//! let assembled = assemble(b"mov R0, 3\nloop: dec R0\njnz loop\nhlt\n")?;
+//! assert_eq!(assembled.words, 4);
+//! assert_eq!(assembled.opcodes[..5], [0x30, 0x10, 0xB4, 0xF8, 0x00]);
+//! assert_eq!(assembled.arguments[..5], [0x03, 0xFF, 0x01, 0x00, 0x00]);
+//! assert_eq!(print(decode([0x10, 0xFF]))?, "add R0, R0, 255");
+//! assert_eq!(print(decode([0xB4, 0x01]))?, "jnz 1");
+//!
+//! let refusal = assemble(b"mov R0, 3\nmov R1, 256\n").unwrap_err();
+//! assert_eq!((refusal.number(), refusal.line()), (24, Some(2)));
+//! let words = "24 at line 2: \"mov R1, 256\" is no instruction or macro: 256 is over 255";
+//! assert_eq!(refusal.to_string(), words);
+//!
+//! let refusal = assemble(b"jnz loop\n").unwrap_err();
+//! let words = "25 at line 1: \"jnz loop\" uses the label \"loop\", which no line gives";
+//! assert_eq!(refusal.to_string(), words);
+//! # Ok(())
+//! # }
+//! ```
+//!
+//! If you keep your own buffers, call [`assemble_into`], [`admit`] and [`run`] on them, and
+//! [`decode`], [`encode`] and [`put`] on single instructions:
 //!
 //! ```
 //! use cesca::{Lent, State, Stop};
