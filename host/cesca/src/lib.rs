@@ -51,7 +51,7 @@
 //! ```
 //!
 //! The source that members type, an instruction or macro on each line, is made into banks by
-//! [`assemble`]; a [`SourceRefusal`] has a number, a line and words. [`print`] spells an instruction:
+//! [`assemble`]; a [`SourceRefusal`] has a number, a line and words. [`print()`] spells an instruction:
 //!
 //! ```
 //! # fn main() -> Result<(), Box<dyn std::error::Error>> {

@@ -9,7 +9,7 @@ const LAST_REGISTER: u8 = 3;
 /// The highest number of an ALU function.
 const LAST_FUNCTION: u8 = 15;
 
-/// The instruction as [`print`] spells it, for fields that [`decode`](crate::decode) gave.
+/// The instruction as [`print()`] spells it, for fields that [`decode`](crate::decode) gave.
 ///
 /// A register number over 3 is taken as 3, a function number over 15 as 15, so that no fields are
 /// refused.

@@ -61,38 +61,43 @@ pub fn spelled(mnemonic: &str, operands: &[&str]) -> String {
 
 /// Whether there are lines with this mnemonic.
 pub fn is_known(mnemonic: &str) -> bool {
-    mnemonic.len() <= MOST && usages(mnemonic).next().is_some()
+    let small = mnemonic.bytes().all(|byte| byte.is_ascii_lowercase());
+    small && mnemonic.len() <= MOST && USAGES.iter().any(|usage| is_usage(mnemonic, usage))
 }
 
 /// What is wrong with operands that are right by themselves: how many they are, or the first that
 /// doesn't fit behind those before it.
 pub fn misfit(mnemonic: &str, operands: &[&str]) -> Option<String> {
-    let (alike, others): (Vec<_>, Vec<_>) =
-        usages(mnemonic).partition(|usage| usage.len() == operands.len());
     let fitting = |usage: &[Due]| {
         let pairs = usage.iter().zip(operands);
         pairs.take_while(|(due, operand)| due.fits(operand)).count()
     };
-    let Some(most) = alike.iter().map(|usage| fitting(usage)).max() else {
-        return Some(other_number(mnemonic, &others, operands.len()));
+    let usages: Vec<&[Due]> = usages(mnemonic, operands.len()).collect();
+    let Some(most) = usages.iter().map(|usage| fitting(usage)).max() else {
+        return Some(other_number(mnemonic, operands.len()));
     };
     let operand = operands.get(most)?;
-    let due = alike.iter().filter(|usage| fitting(usage) == most).map(|usage| usage[most]);
+    let due = usages.iter().filter(|usage| fitting(usage) == most).map(|usage| usage[most]);
     Some(misplaced(operand, due.collect()))
 }
 
-/// The usages that make a line with this mnemonic.
-fn usages(mnemonic: &str) -> impl Iterator<Item = &'static [Due]> + '_ {
-    USAGES.into_iter().filter(move |usage| {
-        let operands: Vec<&str> = usage.iter().map(|due| due.sample()).collect();
-        is_line(&spelled(mnemonic, &operands))
-    })
+/// The usages of a mnemonic that have so many operands.
+fn usages(mnemonic: &str, number: usize) -> impl Iterator<Item = &'static [Due]> + '_ {
+    let alike = USAGES.into_iter().filter(move |usage| usage.len() == number);
+    alike.filter(|usage| is_usage(mnemonic, usage))
+}
+
+/// Whether a mnemonic takes such operands.
+fn is_usage(mnemonic: &str, usage: &[Due]) -> bool {
+    let operands: Vec<&str> = usage.iter().map(|due| due.sample()).collect();
+    is_line(&spelled(mnemonic, &operands))
 }
 
 /// So many operands where other numbers are due.
-fn other_number(mnemonic: &str, usages: &[&[Due]], number: usize) -> String {
-    let mut due: Vec<usize> = usages.iter().map(|usage| usage.len()).collect();
-    due.dedup();
+fn other_number(mnemonic: &str, number: usize) -> String {
+    let most = USAGES.iter().map(|usage| usage.len()).max().unwrap_or_default();
+    let due = (0..=most).filter(|number| usages(mnemonic, *number).next().is_some());
+    let due: Vec<usize> = due.collect();
     match due[..] {
         [0] => format!("{mnemonic} takes no operand"),
         [1] => format!("{mnemonic} takes 1 operand, not {number}"),
