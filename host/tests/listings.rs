@@ -1,5 +1,5 @@
-//! The stored listings beside their source and their text in the README. `cargo run --example store`
-//! stores them.
+//! The stored listings beside source and text in their README. `cargo run --example store` stores
+//! them.
 
 #[path = "common/described.rs"]
 mod described;

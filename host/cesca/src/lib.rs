@@ -16,7 +16,7 @@
 //! }
 //! ```
 //!
-//! A listing written as text with its sheet is read by [`Listing::from_text`], and a text that is no
+//! A listing written as text, with its sheet, is read by [`Listing::from_text`]; a text that is no
 //! listing gives a [`TextError`]. A [`Refusal`] has a number, a place and words. Listing A of the
 //! scope paper is admitted, and it isn't with a need of 1 for routine 0:
 //!
@@ -50,8 +50,8 @@
 //! # }
 //! ```
 //!
-//! The source that members type, an instruction or macro on each line, is made into banks by
-//! [`assemble`]; a [`SourceRefusal`] has a number, a line and words. [`print()`] spells an instruction:
+//! A source, as members type it, has an instruction or macro on each line; [`assemble`] makes banks
+//! of it, or a [`SourceRefusal`] with a number, a line and words. [`print()`] spells an instruction:
 //!
 //! ```
 //! # fn main() -> Result<(), Box<dyn std::error::Error>> {

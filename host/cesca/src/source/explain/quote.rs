@@ -13,7 +13,7 @@ pub fn quoted(part: &[u8]) -> String {
     format!("\"{escaped}\"{rest}")
 }
 
-/// A word of a line: between quotation marks, unless it has a digit and can't be read as one of ours.
+/// A word of a line: between quotation marks, unless a digit tells it from the words around it.
 pub fn shown(word: &str) -> String {
     let digit = word.bytes().any(|byte| byte.is_ascii_digit());
     let plain = word.bytes().all(|byte| byte.is_ascii_graphic() && !b"\"'\\".contains(&byte));

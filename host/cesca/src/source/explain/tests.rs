@@ -79,8 +79,8 @@ fn another_number_keeps_its_general_words() {
     assert_eq!(bytes, SourceRefusal::new(25, Some(1)));
 }
 
-/// Fails if a line is refused by 24 and nothing is found that is wrong with it; yields whether it is
-/// refused so.
+/// Fails if a line is refused and nothing is found that is wrong with it; yields whether it is
+/// refused by 24.
 fn is_explained(line: &[u8]) -> bool {
     let Err(refusal) = assemble(line) else { return false };
     let general = Refusal::of_call(refusal.number());
