@@ -50,8 +50,8 @@
 //! # }
 //! ```
 //!
-//! A source, as members type it, has an instruction or macro on each line; [`assemble`] makes banks
-//! of it, or a [`SourceRefusal`] with a number, a line and words. [`print()`] spells an instruction:
+//! A source, as members type it, has an instruction or macro on each line. [`assemble`] gives its
+//! banks, or a [`SourceRefusal`] with number, line and words; [`print()`] spells an instruction:
 //!
 //! ```
 //! # fn main() -> Result<(), Box<dyn std::error::Error>> {
