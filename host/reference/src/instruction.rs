@@ -86,7 +86,7 @@ impl Instruction {
     }
 
     /// Whether the form's registers, and then its function, are numbers that there are.
-    fn check(self) -> Result<(), Refusal> {
+    pub(super) fn check(self) -> Result<(), Refusal> {
         let own = self.trimmed();
         if [own.d, own.a, own.b].into_iter().any(|register| register > LAST_REGISTER) {
             Err(Refusal::of_call(22))

@@ -1,7 +1,9 @@
-//! Desk and machine written once more, from the papers alone, to hold the proved library against.
+//! Desk, machine and assembler written once more, from the papers alone, to hold the proved library
+//! against.
 //!
 //! The instruction table is kept as text, letter for letter as the CESCA document prints it, and
-//! read bit by bit. Speed is no aim here; a reader with the document beside the table is.
+//! read bit by bit. Speed is no aim here; a reader with the document beside the table is. The
+//! assembler alone has its opcodes written out: the benchmark measures the library by it.
 
 #![warn(missing_docs)]
 
@@ -14,6 +16,7 @@ mod instruction;
 mod listing;
 mod machine;
 mod sheet;
+mod source;
 mod text;
 
 pub use admission::admit;
@@ -24,3 +27,4 @@ pub use instruction::Instruction;
 pub use listing::Listing;
 pub use machine::{run, run_watched, Step};
 pub use sheet::{Routine, SheetWord};
+pub use source::{assemble, print};
