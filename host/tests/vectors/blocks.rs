@@ -1,0 +1,69 @@
+//! Cases that are blocks of `key: value` lines.
+
+/// The keys that every case may have.
+const COMMON: [&str; 3] = ["case", "call", "why"];
+
+/// A block, its lines in order.
+pub struct Block<'a> {
+    lines: Vec<&'a str>,
+}
+
+/// The blocks of a text; an empty line ends one, and comments are left out.
+pub fn blocks(text: &str) -> Vec<Block<'_>> {
+    let lines: Vec<&str> = text.lines().filter(|line| !line.starts_with('#')).collect();
+    let blocks = lines.split(|line| line.is_empty()).filter(|lines| !lines.is_empty());
+    blocks.map(|lines| Block { lines: lines.to_vec() }).collect()
+}
+
+impl<'a> Block<'a> {
+    /// The value of a key that the block has once.
+    pub fn value(&self, key: &str) -> Result<&'a str, String> {
+        self.optional(key)?.ok_or_else(|| format!("no {key}"))
+    }
+
+    /// The value of a key that the block may have once.
+    pub fn optional(&self, key: &str) -> Result<Option<&'a str>, String> {
+        let entries = self.entries()?;
+        let mut values = entries.iter().filter(|(name, _)| *name == key).map(|(_, value)| *value);
+        let first = values.next();
+        match values.next() {
+            Some(_) => Err(format!("{key} stands twice")),
+            None => Ok(first),
+        }
+    }
+
+    /// Success if all keys are among these and those of every case.
+    pub fn expect_keys(&self, known: &[&str]) -> Result<(), String> {
+        let entries = self.entries()?;
+        let mut keys = entries.iter().map(|(key, _)| key);
+        let unknown = keys.find(|key| !COMMON.contains(key) && !known.contains(key));
+        unknown.map_or(Ok(()), |key| Err(format!("no key {key:?} is known")))
+    }
+
+    /// The keys with their values.
+    fn entries(&self) -> Result<Vec<(&'a str, &'a str)>, String> {
+        let entry = |line: &&'a str| {
+            line.split_once(": ").ok_or_else(|| format!("{line:?} is no key and value"))
+        };
+        self.lines.iter().map(entry).collect()
+    }
+}
+
+#[cfg(test)]
+mod tests {
+    use super::*;
+
+    #[test]
+    fn a_block_has_its_lines() {
+        let text = "# a\n\ncase: one\ntext: \nwhy: a: b\n\n\n# b\ncase: two\nno\n# c\n";
+        let found = blocks(text);
+        assert_eq!(found.len(), 2);
+        assert_eq!(found[0].value("case"), Ok("one"));
+        assert_eq!(found[0].value("text"), Ok(""));
+        assert_eq!(found[0].value("why"), Ok("a: b"));
+        assert_eq!(found[0].optional("op"), Ok(None));
+        assert_eq!(found[0].expect_keys(&["text"]), Ok(()));
+        assert_eq!(found[0].expect_keys(&[]), Err("no key \"text\" is known".to_string()));
+        assert!(found[1].value("case").is_err());
+    }
+}
