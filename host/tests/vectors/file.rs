@@ -6,12 +6,17 @@ use crate::source;
 /// Whether a case holds, or what is wrong.
 pub type Outcome = Result<(), String>;
 
+/// What checks a block.
+type OfBlock = fn(&Block) -> Outcome;
+
+/// What checks a line.
+type OfLine = fn(&str) -> Outcome;
+
 /// The calls, each with its check.
-const CALLS: [(&str, fn(&Block) -> Outcome); 2] =
-    [("assemble", source::assemble), ("print", source::print)];
+const CALLS: [(&str, OfBlock); 2] = [("assemble", source::assemble), ("print", source::print)];
 
 /// The files in which each line is a case, with its check.
-const LINES: [(&str, fn(&str) -> Outcome); 1] = [("words.txt", source::word)];
+const LINES: [(&str, OfLine); 1] = [("words.txt", source::word)];
 
 /// The outcomes of a file's cases, or of the file itself where it has none.
 pub fn outcomes(name: &str, text: &str) -> Vec<Outcome> {
