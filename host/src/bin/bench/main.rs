@@ -1,7 +1,8 @@
-//! Speed of the library: runs beside two machines in Rust, admissions beside the reference, and
-//! how both grow.
+//! Speed of the library: runs beside two machines in Rust, admissions and assemblies beside the
+//! reference, and how all of them grow.
 
 mod admissions;
+mod assemblies;
 mod columns;
 mod growth;
 mod listings;
@@ -9,6 +10,7 @@ mod machines;
 mod programs;
 mod runs;
 mod short;
+mod sources;
 #[allow(dead_code)]
 #[path = "../../../tests/common/stored.rs"]
 mod stored;
@@ -26,8 +28,15 @@ fn main() -> io::Result<()> {
 
 /// Prints the tables, one behind another.
 fn tables(out: &mut impl Write) -> io::Result<()> {
-    let tables =
-        [runs::table, short::table, growth::steps_table, growth::routines_table, admissions::table];
+    let tables = [
+        runs::table,
+        short::table,
+        growth::steps_table,
+        growth::routines_table,
+        admissions::table,
+        assemblies::table,
+        assemblies::growth_table,
+    ];
     for (number, table) in tables.into_iter().enumerate() {
         if number > 0 {
             writeln!(out)?;
