@@ -2,6 +2,7 @@
 use slices::BANK_SIZE;
 ghost use mathlib.Core.Path.{_≡_};
 ghost use lib.ListN.{length};
+ghost use Rattle.spelling.specs.internal.Rows.{tableBytes};
 ghost use Rattle.labels.specs.internal.Search.{NewIndex};
 ghost use Rattle.assembling.specs.Assemble.{Assembles};
 ghost use Rattle.assembling.specs.internal.Looking.{Looked};
@@ -12,17 +13,17 @@ pub struct Assembled(pub u8, pub usize, pub usize);
 
 // The answer to a text for good banks. The addresses of its lines and the index of its labels go into lent
 // buffers.
-fn look(text: &[u8], addresses: &mut [u8], starts: &mut [usize], numbers: &mut [usize]) -> Assembled
-    requires { ⌜ (length (now addresses) ≡ 256) × NewIndex (now text) (now starts) (now numbers) ⌝ }
+fn look(table: &[u8], text: &[u8], addresses: &mut [u8], starts: &mut [usize], numbers: &mut [usize]) -> Assembled
+    requires { ⌜ (now table ≡ tableBytes) × (length (now addresses) ≡ 256) × NewIndex (now text) (now starts) (now numbers) ⌝ }
     ensures { λ r. ⌜ Looked (now (text .entry)) r (now (addresses .exit)) (now (starts .exit)) (now (numbers .exit)) ⌝ }
 {
-    let survey = labels::inspect(text, addresses);
+    let survey = labels::inspect(table, text, addresses);
     let bad = survey.bad;
     if bad != 0 {
         return Assembled(24, bad, 0);
     }
     labels::index(text, starts, numbers);
-    let fault = labels::label_fault(text, starts, numbers);
+    let fault = labels::label_fault(table, text, starts, numbers);
     if fault != 0 {
         return Assembled(25, fault, 0);
     }
@@ -47,12 +48,13 @@ pub fn assemble(text: &[u8], opcodes: &mut [u8], arguments: &mut [u8]) -> Assemb
     let mut addresses: [u8; 256] = [0; 256];
     let mut starts: [usize; 256] = [n; 256];
     let mut numbers: [usize; 256] = [0; 256];
-    let answer = look(text, &mut addresses, &mut starts, &mut numbers);
+    let table = spelling::table();
+    let answer = look(&table, text, &mut addresses, &mut starts, &mut numbers);
     if answer.0 != 0 {
         return answer;
     }
     words::clear(opcodes);
     words::clear(arguments);
-    words::store_lines(text, &addresses, &starts, &numbers, opcodes, arguments);
+    words::store_lines(&table, text, &addresses, &starts, &numbers, opcodes, arguments);
     answer
 }

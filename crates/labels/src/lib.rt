@@ -4,7 +4,7 @@ ghost use mathlib.Core.Path.{_≡_};
 ghost use mathlib.Core.Bool.{Bool, false};
 ghost use lib.ListN.{length, take, drop, set};
 ghost use Prim.Native.Nat.{_+_, _-_, _≤_, _<_, min};
-ghost use Rattle.spelling.specs.Spellings.{formsOf};
+ghost use Rattle.spelling.specs.internal.Rows.{tableBytes};
 ghost use Rattle.labels.specs.Lines.{linesOf, labelSize, labelOf, lineOf, sizeOf, nameOf};
 ghost use Rattle.labels.specs.Labels.{same, givenAt, repeats, misses};
 ghost use Rattle.labels.specs.internal.Search.{cutOf, badLabel, more, hashOf, startsAfter, numbersAfter, Index, Inspected, WordsOf, NewIndex, IsLine};
@@ -31,14 +31,15 @@ fn label_size(line: &[u8]) -> usize
 }
 
 // The row that a line fits behind its label.
-pub fn read_line(line: &[u8]) -> Matched
+pub fn read_line(table: &[u8], line: &[u8]) -> Matched
+    requires { ⌜ now table ≡ tableBytes ⌝ }
     ensures { λ r. ⌜ r ≡ lineOf (now (line .entry)) ⌝ }
 {
     let n = label_size(line);
     if n == 0 {
-        return spelling::find_row(line, 0);
+        return spelling::find_row(table, line, 0);
     }
-    spelling::find_row(line, n + 2)
+    spelling::find_row(table, line, n + 2)
 }
 
 // The words of a row of the table.
@@ -56,10 +57,11 @@ pub fn row_size(k: usize) -> usize
 }
 
 // The words of a line, 0 where it is no instruction or macro.
-fn line_size(line: &[u8]) -> usize
+fn line_size(table: &[u8], line: &[u8]) -> usize
+    requires { ⌜ now table ≡ tableBytes ⌝ }
     ensures { λ r. ⌜ (r ≡ sizeOf (now (line .entry))) × (r ≤ 3) ⌝ }
 {
-    let m = read_line(line);
+    let m = read_line(table, line);
     match m {
         Matched::Fits(k, _) => row_size(k),
         Matched::Misfit => 0,
@@ -112,8 +114,8 @@ pub fn set_at(bytes: &mut [u8], at: usize, x: u8)
 
 // The first line that is no instruction or macro, and the words of all lines; the words before each of the
 // first 256 lines go into a lent buffer.
-pub fn inspect(text: &[u8], addresses: &mut [u8]) -> Survey
-    requires { ⌜ length (now addresses) ≡ 256 ⌝ }
+pub fn inspect(table: &[u8], text: &[u8], addresses: &mut [u8]) -> Survey
+    requires { ⌜ (now table ≡ tableBytes) × (length (now addresses) ≡ 256) ⌝ }
     ensures { λ r. ⌜ Inspected (now (text .entry)) r (now (addresses .exit)) ⌝ }
 {
     let n = text.len();
@@ -122,7 +124,7 @@ pub fn inspect(text: &[u8], addresses: &mut [u8]) -> Survey
     let mut words: usize = 0;
     while at < n {
         let end = line_end(text, at);
-        let size = line_size(&text[at..end]);
+        let size = line_size(table, &text[at..end]);
         if size == 0 {
             return Survey { bad: k, words };
         }
@@ -250,11 +252,11 @@ fn is_repeat(text: &[u8], line: &[u8], k: usize, starts: &[usize], numbers: &[us
 }
 
 // Whether a line uses a label that no line gives.
-fn is_missing(text: &[u8], line: &[u8], starts: &[usize], numbers: &[usize]) -> bool
-    requires { ⌜ Index (now text) (now starts) (now numbers) ⌝ }
+fn is_missing(table: &[u8], text: &[u8], line: &[u8], starts: &[usize], numbers: &[usize]) -> bool
+    requires { ⌜ (now table ≡ tableBytes) × Index (now text) (now starts) (now numbers) ⌝ }
     ensures { λ r. ⌜ r ≡ misses (linesOf (now (text .entry))) (now (line .entry)) ⌝ }
 {
-    let m = read_line(line);
+    let m = read_line(table, line);
     match m {
         Matched::Fits(_, places) => {
             let from = places.from;
@@ -270,8 +272,8 @@ fn is_missing(text: &[u8], line: &[u8], starts: &[usize], numbers: &[usize]) -> 
 }
 
 // The first line that repeats a label or uses a missing one, 0 for none.
-pub fn label_fault(text: &[u8], starts: &[usize], numbers: &[usize]) -> usize
-    requires { ⌜ Index (now text) (now starts) (now numbers) ⌝ }
+pub fn label_fault(table: &[u8], text: &[u8], starts: &[usize], numbers: &[usize]) -> usize
+    requires { ⌜ (now table ≡ tableBytes) × Index (now text) (now starts) (now numbers) ⌝ }
     ensures { λ r. ⌜ r ≡ badLabel (now (text .entry)) ⌝ }
 {
     let n = text.len();
@@ -279,7 +281,7 @@ pub fn label_fault(text: &[u8], starts: &[usize], numbers: &[usize]) -> usize
     let mut k: usize = 1;
     while at < n {
         let end = line_end(text, at);
-        if is_repeat(text, &text[at..end], k, starts, numbers) | is_missing(text, &text[at..end], starts, numbers) {
+        if is_repeat(text, &text[at..end], k, starts, numbers) | is_missing(table, text, &text[at..end], starts, numbers) {
             return k;
         }
         k += 1;

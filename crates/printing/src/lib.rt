@@ -3,6 +3,7 @@ use isa::Instr;
 use numbers::Fields;
 ghost use mathlib.Core.Path.{_≡_};
 ghost use Rattle.pages.specs.Page.{page, writeOf};
+ghost use Rattle.spelling.specs.internal.Rows.{tableBytes};
 ghost use Rattle.spelling.specs.Spellings.{patternOf, rowWith};
 ghost use Rattle.printing.specs.Print.{register, shownAt, filled, textOf, Prints};
 
@@ -58,13 +59,14 @@ fn row(form: u8, f: u8) -> usize
 }
 
 // The spelling in row k is written from a place on, filled with an instruction's fields; the place after it.
-fn write_filled(out: &mut [u8], at: usize, k: usize, x: Fields) -> usize
+fn write_filled(out: &mut [u8], at: usize, k: usize, x: Fields, table: &[u8]) -> usize
+    requires { ⌜ now table ≡ tableBytes ⌝ }
     ensures { λ n. ⌜ page (now (out .exit)) n ≡ writeOf (filled (patternOf k) x) (page (now (out .entry)) at) ⌝ }
 {
     let mut next = at;
     let mut j: usize = 0;
     while j < spelling::ROW_WIDTH {
-        let c = spelling::pattern(k, j);
+        let c = spelling::pattern(table, k, j);
         if c == b'.' {
             return next;
         }
@@ -74,12 +76,13 @@ fn write_filled(out: &mut [u8], at: usize, k: usize, x: Fields) -> usize
     next
 }
 
-// The text of an instruction is written from a place on; the place after it.
-pub fn write_text(out: &mut [u8], at: usize, instr: Instr) -> usize
+// The text of an instruction is written from a place on, by the table of spellings; the place after it.
+pub fn write_text(out: &mut [u8], at: usize, instr: Instr, table: &[u8]) -> usize
+    requires { ⌜ now table ≡ tableBytes ⌝ }
     ensures { λ n. ⌜ page (now (out .exit)) n ≡ writeOf (textOf instr) (page (now (out .entry)) at) ⌝ }
 {
     let x = numbers::fields_of(instr);
-    write_filled(out, at, row(x.0, x.3), x)
+    write_filled(out, at, row(x.0, x.3), x, table)
 }
 
 // An instruction printed, or its refusal, which is the encoder's.
@@ -91,6 +94,7 @@ pub fn print(instr: Instr) -> Printed
     if number != 0 {
         return Printed(number, 0, text);
     }
-    let length = write_text(&mut text, 0, instr);
+    let table = spelling::table();
+    let length = write_text(&mut text, 0, instr, &table);
     Printed(0, length as u8, text)
 }

@@ -11,7 +11,8 @@ use lib.ListN.{length, getD, List·getD-eq-default}
 use borrow.Author.Tests.{leb-true, eqb-false, not-true, ltb-true, ltb-false}
 use Rattle.slices.proofs.Bools.{by-test, both}
 use Rattle.spelling.specs.Spellings.{spellings, patternOf}
-use Rattle.spelling.proofs.Table.{at}
+use Rattle.spelling.specs.internal.Rows.{pad, flatten, tableBytes}
+use Rattle.spelling.proofs.Entries.{at}
 
 module _ {ℓ} {A : Type ℓ} where
   -- a test passes at all entries
@@ -25,29 +26,21 @@ module _ {ℓ} {A : Type ℓ} where
   all-at f d (x ∷ xs) p e zero = both (f x) (all f xs) e .0
   all-at f d (x ∷ xs) p e (suc k) = all-at f d xs p (both (f x) (all f xs) e .1) k
 
-unfoldable pub pad : ℕ → List ℕ → List ℕ
-pad zero l = []
-pad (suc n) [] = 46 ∷ pad n []
-pad (suc n) (c ∷ l) = c ∷ pad n l
-
-unfoldable pub flatten : List (List ℕ) → List ℕ
-flatten [] = []
-flatten (s ∷ ss) = pad 16 s ++ flatten ss
-
-unfoldable pub flat : List ℕ
-flat = flatten spellings
-
 right : ℕ → ℕ → Bool
 right i x = eqb x (getD (patternOf (i / 16)) (i % 16) 46)
 
-pub flat-at : (k j : ℕ) → k < 90 → j < 16 → getD flat (16 * k + j) 0 ≡ getD (patternOf k) j 46
-unfolding flat flatten pad spellings right patternOf
-flat-at k j h l =
+pub table-at : (k j : ℕ) → k < 90 → j < 16 → getD tableBytes (16 * k + j) 0 ≡ getD (patternOf k) j 46
+unfolding tableBytes flatten pad spellings right patternOf
+table-at k j h l =
     let e : (16 * k + j) / 16 ≡ k = omega arith in
     let f : (16 * k + j) % 16 ≡ j = omega arith in
-    let t : getD flat (16 * k + j) 0 ≡ getD (patternOf ((16 * k + j) / 16)) ((16 * k + j) % 16) 46
-    = eqb→eq _ _ (at right flat tt (16 * k + j) (omega arith)) in
+    let t : getD tableBytes (16 * k + j) 0 ≡ getD (patternOf ((16 * k + j) / 16)) ((16 * k + j) % 16) 46
+    = eqb→eq _ _ (at right tableBytes tt (16 * k + j) (omega arith)) in
     rw (e, f) at t
+
+pub table-length : length tableBytes ≡ 1440
+unfolding tableBytes flatten pad spellings
+table-length = refl
 
 -- no spelling is over 16 bytes
 pub short : (k : ℕ) → length (patternOf k) ≤ 16

@@ -6,7 +6,7 @@ ghost use Prim.Native.Nat.{_+_, _≤_};
 ghost use Rattle.spelling.specs.Spellings.{patternOf};
 ghost use Rattle.spelling.specs.Words.{inWord, runOf, digitOf, decimalOf, numberOf, operandOf};
 ghost use Rattle.spelling.specs.Reading.{isPlace, failed, tookRegister, tookNumber, tookName, tookOf, literalOf, byteOf, readOf, matchedOf};
-ghost use Rattle.spelling.specs.internal.Rows.{beginsOf, NextRow};
+ghost use Rattle.spelling.specs.internal.Rows.{tableBytes, beginsOf, NextRow};
 
 // What a word of a line is.
 pub enum Operand {
@@ -141,8 +141,16 @@ const ROWS: [u8; 1440] = *b"\
     jge Y, #, @.....\
     mov LCDcmd, Init";
 
+// The table, for those who read it often: they have it made once.
+pub fn table() -> [u8; 1440]
+    ensures { λ r. ⌜ r ≡ tableBytes ⌝ }
+{
+    ROWS
+}
+
 // Byte j of the spelling in row k, a dot past its end.
-pub fn pattern(k: usize, j: usize) -> u8
+pub fn pattern(table: &[u8], k: usize, j: usize) -> u8
+    requires { ⌜ now table ≡ tableBytes ⌝ }
     ensures { λ r. ⌜ r ≡ getD (patternOf k) j 46 ⌝ }
 {
     if ROW_COUNT <= k {
@@ -151,7 +159,7 @@ pub fn pattern(k: usize, j: usize) -> u8
     if ROW_WIDTH <= j {
         return b'.';
     }
-    ROWS[ROW_WIDTH * k + j]
+    table[ROW_WIDTH * k + j]
 }
 
 // Whether a byte is a letter, or, unless only letters are wanted, a figure.
@@ -373,8 +381,8 @@ fn scan_byte(line: &[u8], c: u8, s: Scan) -> Scan
 }
 
 // A line read from a place on by the spelling in row k.
-fn scan_row(line: &[u8], start: usize, k: usize) -> Scan
-    requires { ⌜ start ≤ length (now line) ⌝ }
+fn scan_row(table: &[u8], line: &[u8], start: usize, k: usize) -> Scan
+    requires { ⌜ (now table ≡ tableBytes) × (start ≤ length (now line)) ⌝ }
     ensures { λ r. ⌜ r ≡ readOf (now (line .entry)) start k ⌝ }
 {
     let empty = Places { d: 0, a: 0, b: 0, imm: 0, addr: 0, from: 0, size: 0 };
@@ -385,7 +393,7 @@ fn scan_row(line: &[u8], start: usize, k: usize) -> Scan
         if !ok {
             return s;
         }
-        let c = pattern(k, j);
+        let c = pattern(table, k, j);
         if c == b'.' {
             return s;
         }
@@ -396,26 +404,27 @@ fn scan_row(line: &[u8], start: usize, k: usize) -> Scan
 }
 
 // Whether the spelling in row k begins with three bytes.
-fn begins(k: usize, x: u8, y: u8, z: u8) -> bool
+fn begins(table: &[u8], k: usize, x: u8, y: u8, z: u8) -> bool
+    requires { ⌜ now table ≡ tableBytes ⌝ }
     ensures { λ r. ⌜ r ≡ beginsOf k x y z ⌝ }
 {
-    if pattern(k, 0) != x {
+    if pattern(table, k, 0) != x {
         return false;
     }
-    if pattern(k, 1) != y {
+    if pattern(table, k, 1) != y {
         return false;
     }
-    pattern(k, 2) == z
+    pattern(table, k, 2) == z
 }
 
 // The next row from k on that begins with three bytes; past the table if there is none.
-fn next_row(k: usize, x: u8, y: u8, z: u8) -> usize
-    requires { ⌜ k ≤ 90 ⌝ }
+fn next_row(table: &[u8], k: usize, x: u8, y: u8, z: u8) -> usize
+    requires { ⌜ (now table ≡ tableBytes) × (k ≤ 90) ⌝ }
     ensures { λ r. ⌜ NextRow k x y z r ⌝ }
 {
     let mut next = k;
     while next < ROW_COUNT {
-        if begins(next, x, y, z) {
+        if begins(table, next, x, y, z) {
             return next;
         }
         next += 1;
@@ -424,8 +433,8 @@ fn next_row(k: usize, x: u8, y: u8, z: u8) -> usize
 }
 
 // The row that a line fits from a place on. Rows that begin with other bytes are not tried.
-pub fn find_row(line: &[u8], start: usize) -> Matched
-    requires { ⌜ start ≤ length (now line) ⌝ }
+pub fn find_row(table: &[u8], line: &[u8], start: usize) -> Matched
+    requires { ⌜ (now table ≡ tableBytes) × (start ≤ length (now line)) ⌝ }
     ensures { λ r. ⌜ r ≡ matchedOf (now (line .entry)) start 0 90 ⌝ }
 {
     let n = line.len();
@@ -435,14 +444,14 @@ pub fn find_row(line: &[u8], start: usize) -> Matched
     let x = line[start];
     let y = line[start + 1];
     let z = line[start + 2];
-    let mut k = next_row(0, x, y, z);
+    let mut k = next_row(table, 0, x, y, z);
     while k < ROW_COUNT {
-        let s = scan_row(line, start, k);
+        let s = scan_row(table, line, start, k);
         if s.ok & (s.at == n) {
             let places = s.places;
             return Matched::Fits(k, places);
         }
-        k = next_row(k + 1, x, y, z);
+        k = next_row(table, k + 1, x, y, z);
     }
     Matched::Misfit
 }

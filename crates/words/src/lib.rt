@@ -7,6 +7,7 @@ ghost use mathlib.Core.Path.{_≡_};
 ghost use lib.ListN.{length, set, replicate};
 ghost use Prim.Native.Nat.{_≤_, _<_};
 ghost use Rattle.spelling.specs.Spellings.{formsOf};
+ghost use Rattle.spelling.specs.internal.Rows.{tableBytes};
 ghost use Rattle.labels.specs.Lines.{linesOf};
 ghost use Rattle.labels.specs.Labels.{addressOf};
 ghost use Rattle.words.specs.Program.{opcodeOf, argumentOf, targetBy, programOf};
@@ -83,6 +84,7 @@ fn target(
 
 // The forms of a line are stored from a place on; the place after them.
 fn store_line(
+    table: &[u8],
     text: &[u8],
     line: &[u8],
     at: usize,
@@ -92,10 +94,10 @@ fn store_line(
     opcodes: &mut [u8],
     arguments: &mut [u8],
 ) -> usize
-    requires { ⌜ (at ≤ 256) × Ready (now text) (now addresses) (now starts) (now numbers) ⌝ }
+    requires { ⌜ (now table ≡ tableBytes) × (at ≤ 256) × Ready (now text) (now addresses) (now starts) (now numbers) ⌝ }
     ensures { λ r. ⌜ LineStored (now (text .entry)) (now (line .entry)) at r (now (opcodes .entry)) (now (arguments .entry)) (now (opcodes .exit)) (now (arguments .exit)) ⌝ }
 {
-    let m = labels::read_line(line);
+    let m = labels::read_line(table, line);
     match m {
         Matched::Fits(k, p) => {
             let from = p.from;
@@ -111,6 +113,7 @@ fn store_line(
 
 // The forms of all lines are stored.
 pub fn store_lines(
+    table: &[u8],
     text: &[u8],
     addresses: &[u8],
     starts: &[usize],
@@ -118,7 +121,7 @@ pub fn store_lines(
     opcodes: &mut [u8],
     arguments: &mut [u8],
 )
-    requires { ⌜ Ready (now text) (now addresses) (now starts) (now numbers) ⌝ }
+    requires { ⌜ (now table ≡ tableBytes) × Ready (now text) (now addresses) (now starts) (now numbers) ⌝ }
     ensures { λ _. ⌜ (now (opcodes .exit) ≡ storedIn opcodeOf (programOf (now (text .entry))) 0 (now (opcodes .entry))) × (now (arguments .exit) ≡ storedIn argumentOf (programOf (now (text .entry))) 0 (now (arguments .entry))) ⌝ }
 {
     let n = text.len();
@@ -126,7 +129,7 @@ pub fn store_lines(
     let mut at: usize = 0;
     while from < n {
         let end = labels::line_end(text, from);
-        at = store_line(text, &text[from..end], at, addresses, starts, numbers, opcodes, arguments);
+        at = store_line(table, text, &text[from..end], at, addresses, starts, numbers, opcodes, arguments);
         from = labels::next_line(end, n);
     }
 }

@@ -11,9 +11,9 @@ pub inspect-spec : {M : Type 1} → statement M
 inspect-spec =
     tie.close
     (tie.spec
-    (λ text addresses₀ n at₀ k₀ words₀ addresses at k words. Inspecting text at k words addresses)
-    (λ text addresses₀ n at₀ k₀ words₀ addresses at k words. n - at)
-    (λ c. inspect-starts (c .before .before .pre))
+    (λ table text addresses₀ n at₀ k₀ words₀ addresses at k words. Inspecting text at k words addresses)
+    (λ table text addresses₀ n at₀ k₀ words₀ addresses at k words. n - at)
+    (λ c. inspect-starts (c .before .before .before .pre .1))
     (λ c κs. c .before .loop .inv .search .line .within)
     (λ c. search needs)
     (λ c. search needs)

@@ -15,14 +15,14 @@ pub label-fault-spec : {M : Type 1} → statement M
 label-fault-spec =
     tie.close
     (tie.spec
-    (λ text starts numbers n at₀ k₀ at k. Searching (isFaulty text) text at k)
-    (λ text starts numbers n at₀ k₀ at k. n - at)
+    (λ table text starts numbers n at₀ k₀ at k. Searching (isFaulty text) text at k)
+    (λ table text starts numbers n at₀ k₀ at k. n - at)
     (λ c. search-starts)
     (λ c κs. c .before .loop .inv .line .within)
     (λ c. search needs)
     (λ c. search needs)
     (λ c. search needs)
-    (λ c κs. (c .before .before .before .before .before .before .before .pre, this-line (c .before .before .before .loop .inv .line) (c .before .before .loop-test .taken) (c .before .line-end .ensures .0) (c .before .line-end .ensures .1)))
+    (λ c κs. (c .before .before .before .before .before .before .before .before .pre .1, this-line (c .before .before .before .loop .inv .line) (c .before .before .loop-test .taken) (c .before .line-end .ensures .0) (c .before .line-end .ensures .1)))
     (λ c. search needs)
     (λ c. search needs)
     (λ c. search needs)

@@ -14,6 +14,6 @@ read-line-spec =
     (λ c κs. search needs)
     (λ c κs. search needs)
     (λ c. simp (← c .before .before .label-size .ensures, eq-eqb _ _ (c .before .if1 .taken)) (c .find-row .ensures))
-    (λ c. let h = label-fits (c .before .before .before .args .line .now) (λ e. c .if1 .left (c .before .label-size .ensures ∙ e)) in let g = c .before .label-size .ensures in search needs)
-    (λ c κs. let h = label-fits (c .before .before .before .args .line .now) (λ e. c .if1 .left (c .before .label-size .ensures ∙ e)) in let g = c .before .label-size .ensures in search needs)
+    (λ c. let h = label-fits (c .before .before .before .before .args .line .now) (λ e. c .if1 .left (c .before .label-size .ensures ∙ e)) in let g = c .before .label-size .ensures in search needs)
+    (λ c κs. let h = label-fits (c .before .before .before .before .args .line .now) (λ e. c .if1 .left (c .before .label-size .ensures ∙ e)) in let g = c .before .label-size .ensures in search needs)
     (λ c. simp (← c .before .before .label-size .ensures, ne-eqb _ _ (c .before .if1 .left)) (c .find-row2 .ensures)))

@@ -19,14 +19,16 @@ print-spec =
     let s = c .before .before .before in
     let i = s .args .instr in
     refused i (c .before .number .result) (fields-bytes i (s .good .0)) (c .before .number .ensures ∙ ap numberOf (c .before .before .encode .ensures .rule)) (c .if1 .taken))
-    (λ c. search needs)
     (λ c κs. search needs)
+    (λ c. search needs)
+    (λ c. search needs)
+    (λ c κs. c .before .before .table .ensures)
     (λ c.
-    let s = c .before .before .before .before .before .before in
+    let s = c .before .before .before .before .before .before .before .before in
     let i = s .args .instr in
     record { fits = omega (arith, printed-length i (fields-bytes i (s .good .0)) (c .before .write-text .ensures)) })
     (λ c.
-    let s = c .before .before .before .before .before .before in
+    let s = c .before .before .before .before .before .before .before .before in
     let i = s .args .instr in
-    let n = c .before .before .before .before in
-    printed i (fields-bytes i (s .good .0)) (c .before .write-text .ensures) (sym (n .number .ensures ∙ ap numberOf (n .before .encode .ensures .rule)) ∙ c .before .before .before .if1 .left)))
+    let n = c .before .before .before .before .before .before in
+    printed i (fields-bytes i (s .good .0)) (c .before .write-text .ensures) (sym (n .number .ensures ∙ ap numberOf (n .before .encode .ensures .rule)) ∙ c .before .before .before .before .before .if1 .left)))

@@ -11,8 +11,8 @@ pub write-filled-spec : {M : Type 1} → statement M
 write-filled-spec =
     tie.close
     (tie.spec
-    (λ out₀ at k x next₀ j₀ out next j. Filling k x (page out₀ at) j (page out next))
-    (λ out₀ at k x next₀ j₀ out next j. 16 - j)
+    (λ out₀ at k x table next₀ j₀ out next j. Filling k x (page out₀ at) j (page out next))
+    (λ out₀ at k x table next₀ j₀ out next j. 16 - j)
     (λ c. fill-starts)
     (λ c κs. search needs)
     (λ c. c .before .before .before .loop .inv .room)

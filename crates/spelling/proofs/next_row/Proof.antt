@@ -12,8 +12,8 @@ pub next-row-spec : {M : Type 1} → statement M
 next-row-spec =
     tie.close
     (tie.spec
-    (λ k x y z next₀ next. NextRow k x y z next)
-    (λ k x y z next₀ next. 90 - next)
+    (λ table k x y z next₀ next. NextRow k x y z next)
+    (λ table k x y z next₀ next. 90 - next)
     (λ c. next-starts (search needs))
     (λ c κs. search needs)
     (λ c. c .before .before .before .loop .inv)

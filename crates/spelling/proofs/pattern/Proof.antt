@@ -1,14 +1,16 @@
 use native.Mathlib.Omega.{arith}
-use mathlib.Core.Path.{sym}
-use lib.ListN.{List·getD-eq-default}
-use Rattle.spelling.specs.Spellings.{patternOf, spellings}
-use Rattle.spelling.proofs.Rows.{flat, flatten, pad, flat-at, short, none-past}
+use mathlib.Core.Path.{sym, ap, _∙_}
+use mathlib.Core.List.{List}
+use Prim.Native.Nat.{ℕ, _+_, _*_}
+use lib.ListN.{length, getD, List·getD-eq-default}
+use Rattle.spelling.specs.Spellings.{patternOf}
+use Rattle.spelling.proofs.Rows.{table-at, table-length, short, none-past}
 use borrow.Author.Needs.{needs}
 use Rattle.spelling.proofs.pattern.Statement.{statement}
 use Rattle.spelling.proofs.pattern.Tie as tie
 
 pub pattern-spec : {M : Type 1} → statement M
-unfolding flat flatten pad patternOf spellings
+unfolding patternOf
 pattern-spec =
     tie.close
     (tie.spec
@@ -16,5 +18,5 @@ pattern-spec =
     (λ c. sym (List·getD-eq-default (patternOf (c .before .before .args .k)) 46 (omega (arith, short (c .before .before .args .k)))))
     (λ c. search needs)
     (λ c. search needs)
-    (λ c. search needs)
-    (λ c. flat-at (c .before .before .args .k) (c .before .before .args .j) (search needs) (search needs)))
+    (λ c. omega (arith, ap (length {A = ℕ}) (c .before .before .before .pre) ∙ table-length))
+    (λ c. let a = c .before .before .before .args in ap (λ (l : List ℕ). getD l (16 * a .k + a .j) 0) (c .before .before .before .pre) ∙ table-at (a .k) (a .j) (search needs) (search needs)))

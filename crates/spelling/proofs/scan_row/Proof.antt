@@ -11,8 +11,8 @@ unfolding readOf
 scan-row-spec =
     tie.close
     (tie.spec
-    (λ line start k s₀ j₀ s j. Scanning line k (scanned start emptyPlaces) j s)
-    (λ line start k s₀ j₀ s j. 16 - j)
+    (λ table line start k s₀ j₀ s j. Scanning line k (scanned start emptyPlaces) j s)
+    (λ table line start k s₀ j₀ s j. 16 - j)
     (λ c. scan-start (search needs))
     (λ c. scan-stop (c .before .before .loop .inv) (not-true _ (c .if1 .taken)))
     (λ c κs. search needs)
