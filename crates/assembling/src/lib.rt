@@ -46,8 +46,8 @@ pub fn assemble(text: &[u8], opcodes: &mut [u8], arguments: &mut [u8]) -> Assemb
     }
     let n = text.len();
     let mut addresses: [u8; 256] = [0; 256];
-    let mut starts: [usize; 256] = [n; 256];
-    let mut numbers: [usize; 256] = [0; 256];
+    let mut starts: [usize; 4096] = [n; 4096];
+    let mut numbers: [usize; 4096] = [0; 4096];
     let table = spelling::table();
     let answer = look(&table, text, &mut addresses, &mut starts, &mut numbers);
     if answer.0 != 0 {

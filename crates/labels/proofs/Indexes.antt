@@ -1,31 +1,58 @@
 -- The index of labels: no line before an entry's gives a name of that number. A line that is passed over gives no name whose number has no entry
 -- yet, since it would have been entered.
 -- Assumes nothing.
-use Prim.Native.Nat.{ℕ, zero, suc, _+_, _-_, _≤_, _<_, min}
+use Prim.Native.Nat.{ℕ, zero, suc, _+_, _*_, _-_, _%_, _≤_, _<_, min}
 use native.Mathlib.Omega.{arith}
+use native.Mathlib.Numerals.{add-one}
 use mathlib.Core.Path.{_≡_, refl, sym, ap, ap₂, _∙_}
 use mathlib.Core.Bool.{Bool, true, false, cond, not, _&&_}
 use mathlib.Core.List.{List, [], _∷_}
 use lib.Dec.{eqb, ltb}
-use lib.ListN.{length, getD, take, drop, set, replicate, length-set, length-replicate, getD-replicate, List·getD-eq-default}
-use lib.Seq.{getD-set-same, getD-set-other, drop-length}
+use lib.ListN.{length, getD, take, drop, set, replicate, drop-of-length-le, length-set, length-replicate, getD-replicate, List·getD-eq-default}
+use lib.Seq.{getD-set-same, getD-set-other, drop-cons}
 use borrow.Author.Tests.{eq-eqb, ne-eqb, eqb-true, eqb-false, ltb-true, ltb-false}
 use Rattle.slices.proofs.Bools.{by-test, both}
 use Rattle.labels.specs.Lines.{linesOf, labelSize, labelOf, isLabelled}
 use Rattle.labels.specs.Labels.{same, givenAt}
-use Rattle.labels.specs.internal.Search.{cutOf, hashOf, isNew, startsAfter, numbersAfter, NewIndex, Index}
+use Rattle.labels.specs.internal.Search.{cutOf, slots, hashFrom, hashOf, isNew, startsAfter, numbersAfter, NewIndex, Index}
 use Rattle.labels.proofs.Cuts.{AtLine, line-starts, line-goes, lines-after, lines-over}
 use Rattle.labels.proofs.Names.{same-equal, given-labelled}
 use Rattle.labels.proofs.Searches.{given-one, given-none, Looking}
 
-pub hash-low : (l : List ℕ) → hashOf l < 256
-unfolding hashOf
-hash-low l = omega arith
+hash-below : (l : List ℕ) (h : ℕ) → h < slots → hashFrom h l < slots
+unfolding hashFrom
+hash-below [] h b = b
+hash-below (c ∷ l) h b = hash-below l ((33 * h + c) % slots) (omega arith)
 
-pub hash-empty : (l : List ℕ) → length l ≡ 0 → 0 ≡ hashOf l
-unfolding hashOf
-hash-empty [] e = refl
-hash-empty (c ∷ l) e = absurd (omega arith)
+pub hash-low : (l : List ℕ) → hashOf l < slots
+hash-low l = hash-below l 0 (omega arith)
+
+-- the loop over the letters of a name
+pub record Hashing (l : List ℕ) (i h : ℕ) : Type 0 where
+  pub low : h < slots
+  pub left : hashOf l ≡ hashFrom h (drop i l)
+
+pub hash-starts : {l : List ℕ} → Hashing l 0 0
+hash-starts = record { low = omega arith; left = refl }
+
+hash-one : (h c : ℕ) (l : List ℕ) → hashFrom h (c ∷ l) ≡ hashFrom ((33 * h + c) % slots) l
+unfolding hashFrom
+hash-one h c l = refl
+
+hash-none : (h : ℕ) → hashFrom h [] ≡ h
+unfolding hashFrom
+hash-none h = refl
+
+module _ {l : List ℕ} {i h : ℕ} (r : Hashing l i h) where
+  pub hash-goes : i < length l → Hashing l (i + 1) ((33 * h + getD l i 0) % slots)
+  hash-goes b =
+      record {
+        low = omega arith;
+        left = rw (add-one i) (r .left ∙ (ap (hashFrom h) (drop-cons l i 0 b) ∙ hash-one h (getD l i 0) (drop (suc i) l)));
+      }
+
+  pub hash-ends : length l ≤ i → (h ≡ hashOf l) × (h < slots)
+  hash-ends b = (sym (r .left ∙ (ap (hashFrom h) (drop-of-length-le l b) ∙ hash-none h)), r .low)
 
 -- where the search for a name of number h may begin: at its entry, or, where it has none, at the line that the loop has come to
 abbrev entered : List ℕ → List ℕ → ℕ → ℕ → List ℕ → List ℕ → ℕ
@@ -35,11 +62,11 @@ entered name t at k starts numbers =
 
 pub record Indexing (t : List ℕ) (at k : ℕ) (starts numbers : List ℕ) : Type 0 where
   pub line : AtLine t at k
-  pub start-room : length starts ≡ 256
-  pub number-room : length numbers ≡ 256
+  pub start-room : length starts ≡ slots
+  pub number-room : length numbers ≡ slots
   pub within : (h : ℕ) → getD starts h 0 ≤ length t
   pub few : (h : ℕ) → getD numbers h 0 ≤ getD starts h 0 + 1
-  pub unset : (h : ℕ) → h < 256 → getD numbers h 0 ≡ 0 → getD starts h 0 ≡ length t
+  pub unset : (h : ℕ) → h < slots → getD numbers h 0 ≡ 0 → getD starts h 0 ≡ length t
   pub skips : (name : List ℕ) → 0 < length name → givenAt name (linesOf t) 1 ≡ entered name t at k starts numbers
 
 -- an entry of a list that holds one number
@@ -53,8 +80,8 @@ zeros zero h = refl
 zeros (suc n) zero = refl
 zeros (suc n) (suc h) = zeros n h
 
-pub new-rooms : (t : List ℕ) {starts numbers : List ℕ} → NewIndex t starts numbers → (length starts ≡ 256) × (length numbers ≡ 256)
-new-rooms t e = (ap length (e .0) ∙ length-replicate 256 (length t), ap length (e .1) ∙ length-replicate {A = ℕ} 256 0)
+pub new-rooms : (t : List ℕ) {starts numbers : List ℕ} → NewIndex t starts numbers → (length starts ≡ slots) × (length numbers ≡ slots)
+new-rooms t e = (ap length (e .0) ∙ length-replicate slots (length t), ap length (e .1) ∙ length-replicate {A = ℕ} slots 0)
 
 pub index-starts : {t starts numbers : List ℕ} → NewIndex t starts numbers → Indexing t 0 1 starts numbers
 index-starts {t} {starts} {numbers} e =
@@ -62,14 +89,14 @@ index-starts {t} {starts} {numbers} e =
       line = line-starts;
       start-room = new-rooms t e .0;
       number-room = new-rooms t e .1;
-      within = λ h. rw (e .0) (replicated 256 (length t) h);
-      few = λ h. rw (e .1, zeros 256 h) (omega arith);
-      unset = λ h l z. rw (e .0) (getD-replicate 256 h (length t) 0 l);
-      skips = λ name l. rw (e .1, zeros 256 (hashOf name));
+      within = λ h. rw (e .0) (replicated slots (length t) h);
+      few = λ h. rw (e .1, zeros slots h) (omega arith);
+      unset = λ h l z. rw (e .0) (getD-replicate slots h (length t) 0 l);
+      skips = λ name l. rw (e .1, zeros slots (hashOf name));
     }
 
 -- an entry of a list with one set
-set-entry : (l : List ℕ) (i a h : ℕ) → length l ≡ 256 → i < 256 → getD (set l i a) h 0 ≡ cond (eqb h i) a (getD l h 0)
+set-entry : (l : List ℕ) (i a h : ℕ) → length l ≡ slots → i < slots → getD (set l i a) h 0 ≡ cond (eqb h i) a (getD l h 0)
 set-entry l i a h r b =
     by-test (eqb h i)
     (λ e. let q = eqb-true h i e in rw (e, q) (getD-set-same l i a 0 (omega arith)))
@@ -158,7 +185,7 @@ module _ {t : List ℕ} {at k e : ℕ} {starts numbers : List ℕ} (r : Indexing
           by : Entry i → getD (numbersAfter l k numbers) i 0 ≤ getD (startsAfter l at numbers starts) i 0 + 1
           by (this b s p q) = rw (p, q) (r .line .few)
           by (other n p q) = rw (p, q) (r .few i)
-      unset-still : (i : ℕ) → i < 256 → getD (numbersAfter l k numbers) i 0 ≡ 0 → getD (startsAfter l at numbers starts) i 0 ≡ length t
+      unset-still : (i : ℕ) → i < slots → getD (numbersAfter l k numbers) i 0 ≡ 0 → getD (startsAfter l at numbers starts) i 0 ≡ length t
       unset-still i low z = by (entry i)
         where
           by : Entry i → getD (startsAfter l at numbers starts) i 0 ≡ length t

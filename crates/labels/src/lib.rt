@@ -7,7 +7,10 @@ ghost use Prim.Native.Nat.{_+_, _-_, _≤_, _<_, min};
 ghost use Rattle.spelling.specs.internal.Rows.{tableBytes};
 ghost use Rattle.labels.specs.Lines.{linesOf, labelSize, labelOf, lineOf, sizeOf, nameOf};
 ghost use Rattle.labels.specs.Labels.{same, givenAt, repeats, misses};
-ghost use Rattle.labels.specs.internal.Search.{cutOf, badLabel, more, hashOf, startsAfter, numbersAfter, Index, Inspected, WordsOf, NewIndex, IsLine};
+ghost use Rattle.labels.specs.internal.Search.{cutOf, badLabel, more, slots, hashOf, startsAfter, numbersAfter, Index, Inspected, WordsOf, NewIndex, IsLine};
+
+// How many numbers there are by which labels are looked up.
+pub const SLOTS: usize = 4096;
 
 // What a look at every line tells: the first that is no instruction or macro, 0 for none, and the words of all
 // lines, as far as 256 and more.
@@ -136,18 +139,18 @@ pub fn inspect(table: &[u8], text: &[u8], addresses: &mut [u8]) -> Survey
     Survey { bad: 0, words }
 }
 
-// The number below 256 by which a name is looked up.
+// The number by which a name is looked up.
 fn hash(name: &[u8]) -> usize
-    ensures { λ r. ⌜ (r ≡ hashOf (now (name .entry))) × (r < 256) ⌝ }
+    ensures { λ r. ⌜ (r ≡ hashOf (now (name .entry))) × (r < slots) ⌝ }
 {
     let n = name.len();
-    if n == 0 {
-        return 0;
+    let mut h: usize = 0;
+    let mut i: usize = 0;
+    while i < n {
+        h = (33 * h + (name[i] as usize)) % SLOTS;
+        i += 1;
     }
-    let first = slices::byte_at(name, 0) as usize;
-    let middle = slices::byte_at(name, n / 2) as usize;
-    let last = slices::byte_at(name, n - 1) as usize;
-    (n % 256 + 31 * first + 7 * middle + last) % 256
+    h
 }
 
 // Whether two names are the same.
@@ -187,7 +190,7 @@ fn gives(line: &[u8], name: &[u8]) -> bool
 // A labelled line's place and line number are put where its label is looked up, unless an earlier line's
 // stand there.
 fn enter(line: &[u8], at: usize, k: usize, starts: &mut [usize], numbers: &mut [usize])
-    requires { ⌜ (length (now starts) ≡ 256) × (length (now numbers) ≡ 256) ⌝ }
+    requires { ⌜ (length (now starts) ≡ slots) × (length (now numbers) ≡ slots) ⌝ }
     ensures { λ _. ⌜ (now (starts .exit) ≡ startsAfter (now (line .entry)) at (now (numbers .entry)) (now (starts .entry))) × (now (numbers .exit) ≡ numbersAfter (now (line .entry)) k (now (numbers .entry))) ⌝ }
 {
     let size = label_size(line);

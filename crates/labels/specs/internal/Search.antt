@@ -1,6 +1,6 @@
 -- Searches over the lines of a text as the code makes them.
 -- Assumes nothing.
-use Prim.Native.Nat.{ℕ, suc, _+_, _*_, _-_, _/_, _%_, _≤_, _<_}
+use Prim.Native.Nat.{ℕ, suc, _+_, _*_, _-_, _%_, _≤_, _<_}
 use mathlib.Core.Path.{_≡_}
 use mathlib.Core.Bool.{Bool, cond, _&&_, _||_}
 use mathlib.Core.List.{List, [], _∷_}
@@ -46,9 +46,17 @@ pub record Addresses (t : List ℕ) (known : ℕ) (addresses : List ℕ) : Type 
   pub room : length addresses ≡ 256
   pub held : (j : ℕ) → j < known → j < 256 → getD addresses j 0 ≡ countFrom 0 (take j (linesOf t)) % 256
 
--- a number below 256 for a name, by which it is looked up
-unfoldable pub hashOf : List ℕ → ℕ
-hashOf l = (length l % 256 + 31 * getD l 0 0 + 7 * getD l (length l / 2) 0 + getD l (length l - 1) 0) % 256
+-- how many numbers there are by which names are looked up
+abbrev pub slots : ℕ
+slots = 4096
+
+-- such a number for a name, whose letters are read behind a number h
+unfoldable pub hashFrom : ℕ → List ℕ → ℕ
+hashFrom h [] = h
+hashFrom h (c ∷ l) = hashFrom ((33 * h + c) % slots) l
+
+abbrev pub hashOf : List ℕ → ℕ
+hashOf l = hashFrom 0 l
 
 -- a labelled line whose label's number has no entry yet
 abbrev pub isNew : List ℕ → List ℕ → Bool
@@ -62,12 +70,12 @@ numbersAfter l k numbers = cond (isNew l numbers) (set numbers (hashOf (labelOf 
 
 -- no entry at all: each place is the text's end
 abbrev pub NewIndex : List ℕ → List ℕ → List ℕ → Type 0
-NewIndex t starts numbers = (starts ≡ replicate 256 (length t)) × (numbers ≡ replicate 256 0)
+NewIndex t starts numbers = (starts ≡ replicate slots (length t)) × (numbers ≡ replicate slots 0)
 
 -- for each such number a place of the text and the line there: no line before it gives a name of that number
 pub record Index (t starts numbers : List ℕ) : Type 0 where
-  pub start-room : length starts ≡ 256
-  pub number-room : length numbers ≡ 256
+  pub start-room : length starts ≡ slots
+  pub number-room : length numbers ≡ slots
   pub within : (h : ℕ) → getD starts h 0 ≤ length t
   pub few : (h : ℕ) → getD numbers h 0 ≤ getD starts h 0 + 1
   pub skips : (name : List ℕ) → 0 < length name
