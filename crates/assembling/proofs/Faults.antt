@@ -50,7 +50,7 @@ fault-numbered t e = by-bad (badLine t) (badLabel t) (ltb 256 (wordCount (linesO
     by-bad bad fault long f q e =
         by-test (eqb bad 0)
         (λ a. by-test (eqb fault 0) (λ b. by-test long (λ c. absurd (omega (arith, rw (a, b, c) at q))) (λ c. rw (a, b, c) at q))
-            (λ b. absurd (omega (arith, rw (a, b) at q))))
+        (λ b. absurd (omega (arith, rw (a, b) at q))))
         (λ a. absurd (omega (arith, rw a at q)))
 
 -- an answer's number and line
@@ -125,8 +125,10 @@ assembles t ops args {r} {ops′} {args′} e o g =
   where
     numbers-told : (f : ℕ) → answerBy f t .0 + 256 * answerBy f t .1 ≡ f
     numbers-told f = by-test (eqb f 0) (λ z. rw z (omega (arith, eqb-true f 0 z))) (λ z. rw z (omega arith))
+
     told : r .0 + 256 * r .1 ≡ faultOf t ops args
     told = ap (λ (x : Assembled). x .0 + 256 * x .1) e ∙ (unfold answerOf in numbers-told (faultOf t ops args))
+
     fault : (NoneBroken (assembleChecks t ops args) → ⊥) → faultOf t ops args ≡ 0 → ⊥
     fault broken z = broken (none-broken (assembleChecks t ops args) (checks-numbered t ops args) (unfold faultOf in z))
 

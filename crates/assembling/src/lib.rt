@@ -13,7 +13,13 @@ pub struct Assembled(pub u8, pub usize, pub usize);
 
 // The answer to a text for good banks. The addresses of its lines and the index of its labels go into lent
 // buffers.
-fn look(table: &[u8], text: &[u8], addresses: &mut [u8], starts: &mut [usize], numbers: &mut [usize]) -> Assembled
+fn look(
+    table: &[u8],
+    text: &[u8],
+    addresses: &mut [u8],
+    starts: &mut [usize],
+    numbers: &mut [usize],
+) -> Assembled
     requires { ⌜ (now table ≡ tableBytes) × (length (now addresses) ≡ 256) × NewIndex (now text) (now starts) (now numbers) ⌝ }
     ensures { λ r. ⌜ Looked (now (text .entry)) r (now (addresses .exit)) (now (starts .exit)) (now (numbers .exit)) ⌝ }
 {
@@ -55,6 +61,14 @@ pub fn assemble(text: &[u8], opcodes: &mut [u8], arguments: &mut [u8]) -> Assemb
     }
     words::clear(opcodes);
     words::clear(arguments);
-    words::store_lines(&table, text, &addresses, &starts, &numbers, opcodes, arguments);
+    words::store_lines(
+        &table,
+        text,
+        &addresses,
+        &starts,
+        &numbers,
+        opcodes,
+        arguments,
+    );
     answer
 }

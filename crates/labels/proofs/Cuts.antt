@@ -59,12 +59,12 @@ lines-after t at e a h f g m =
     let c : e - at ≡ cutOf (drop at t) = omega arith in
     let l : 0 < length (drop at t) = omega (arith, length-drop at t) in
     let d : drop (suc (cutOf (drop at t))) (drop at t) ≡ drop a t =
-          drop-drop (suc (cutOf (drop at t))) at t ∙ by-test (ltb e (length t))
-          (λ k. let q : at + suc (cutOf (drop at t)) ≡ a = omega (arith, ltb-true e (length t) k) in rw q)
-          (λ k. let q = ltb-false e (length t) k in
-                let u : length t ≤ at + suc (cutOf (drop at t)) = omega arith in
-                let v : length t ≤ a = omega arith in
-                drop-of-length-le t u ∙ sym (drop-of-length-le t v)) in
+    drop-drop (suc (cutOf (drop at t))) at t ∙ by-test (ltb e (length t))
+    (λ k. let q : at + suc (cutOf (drop at t)) ≡ a = omega (arith, ltb-true e (length t) k) in rw q)
+    (λ k. let q = ltb-false e (length t) k in
+    let u : length t ≤ at + suc (cutOf (drop at t)) = omega arith in
+    let v : length t ≤ a = omega arith in
+    drop-of-length-le t u ∙ sym (drop-of-length-le t v)) in
     rw (c, ← d) (lines-cut (drop at t) l)
 
 -- no line is left past the end

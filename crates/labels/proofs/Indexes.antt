@@ -131,8 +131,8 @@ module _ {t : List ℕ} {at k e : ℕ} {starts numbers : List ℕ} (r : Indexing
   entry i =
       by-test (isNew l numbers)
       (λ b. by-test (eqb i slot)
-          (λ s. this b (eqb-true i slot s) (starts-entry true (sym b) i ∙ rw s) (numbers-entry true (sym b) i ∙ rw s))
-          (λ s. other (λ _ q. eqb-false i slot s q) (starts-entry true (sym b) i ∙ rw s) (numbers-entry true (sym b) i ∙ rw s)))
+      (λ s. this b (eqb-true i slot s) (starts-entry true (sym b) i ∙ rw s) (numbers-entry true (sym b) i ∙ rw s))
+      (λ s. other (λ _ q. eqb-false i slot s q) (starts-entry true (sym b) i ∙ rw s) (numbers-entry true (sym b) i ∙ rw s)))
       (λ b. other (λ c _. no (sym c ∙ b)) (starts-entry false (sym b) i) (numbers-entry false (sym b) i))
 
   -- a line that gives a name has an entry for it afterwards
@@ -156,9 +156,9 @@ module _ {t : List ℕ} {at k e : ℕ} {starts numbers : List ℕ} (r : Indexing
             rw (p, q)
             (by-test (eqb (getD numbers (hashOf name) 0) 0)
             (λ z. rw z (passed (by-test (same (labelOf l) name)
-                (λ s. let w = same-equal (labelOf l) name s in
-                      absurd (n (is-new w (eqb-true _ _ z)) (sym (ap hashOf w))))
-                (λ s. s))))
+            (λ s. let w = same-equal (labelOf l) name s in
+            absurd (n (is-new w (eqb-true _ _ z)) (sym (ap hashOf w))))
+            (λ s. s))))
             (λ z. rw z))
 
   pub index-goes : {a : ℕ} → a ≡ min (e + 1) (length t) → Indexing t a (k + 1) (startsAfter l at numbers starts) (numbersAfter l k numbers)
@@ -179,12 +179,14 @@ module _ {t : List ℕ} {at k e : ℕ} {starts numbers : List ℕ} (r : Indexing
           by : Entry i → getD (startsAfter l at numbers starts) i 0 ≤ length t
           by (this b s p q) = rw p (omega arith)
           by (other n p q) = rw p (r .within i)
+
       few-still : (i : ℕ) → getD (numbersAfter l k numbers) i 0 ≤ getD (startsAfter l at numbers starts) i 0 + 1
       few-still i = by (entry i)
         where
           by : Entry i → getD (numbersAfter l k numbers) i 0 ≤ getD (startsAfter l at numbers starts) i 0 + 1
           by (this b s p q) = rw (p, q) (r .line .few)
           by (other n p q) = rw (p, q) (r .few i)
+
       unset-still : (i : ℕ) → i < slots → getD (numbersAfter l k numbers) i 0 ≡ 0 → getD (startsAfter l at numbers starts) i 0 ≡ length t
       unset-still i low z = by (entry i)
         where
@@ -206,9 +208,9 @@ index-ends {t} {at} {k} {starts} {numbers} r h =
     at-end name =
         by-test (eqb (getD numbers (hashOf name) 0) 0)
         (λ z. rw z (ap (λ (ls : List (List ℕ)). givenAt name ls k) (lines-over t at h) ∙ given-none name k
-            ∙ sym (ap (λ (ls : List (List ℕ)). givenAt name ls (getD numbers (hashOf name) 0))
-                (lines-over t (getD starts (hashOf name) 0) (omega (arith, r .unset (hashOf name) (hash-low name) (eqb-true _ _ z))))
-                ∙ given-none name (getD numbers (hashOf name) 0))))
+        ∙ sym (ap (λ (ls : List (List ℕ)). givenAt name ls (getD numbers (hashOf name) 0))
+        (lines-over t (getD starts (hashOf name) 0) (omega (arith, r .unset (hashOf name) (hash-low name) (eqb-true _ _ z))))
+        ∙ given-none name (getD numbers (hashOf name) 0))))
         (λ z. rw z)
 
 -- a search begins at the entry of its name's number

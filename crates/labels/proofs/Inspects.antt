@@ -66,15 +66,18 @@ module _ {t addresses : List ℕ} {at k words : ℕ} (r : Inspecting t at k word
       where
         this : IsLine t k (take (e - at) (drop at t))
         this = this-line (r .search .line) h f g
+
         one : k + 1 - 1 ≡ suc (k - 1)
         one = omega (arith, this .from)
+
         counted-more : more words s ≡ countFrom 0 (take (suc (k - 1)) (linesOf t))
         counted-more =
             sym (count-more (linesOf t) (k - 1) 0 (omega (arith, this .from, this .within)) ∙ rw (this .is, ← q, ← r .counted))
+
         held-more : (j : ℕ) → j < k + 1 - 1 → j < 256 → getD (set addresses (k - 1) (words % 256)) j 0 ≡ countFrom 0 (take j (linesOf t)) % 256
         held-more j x y =
             by-test (eqb j (k - 1))
             (λ c. let d = eqb-true j (k - 1) c in
-                  rw d (getD-set-same addresses (k - 1) (words % 256) 0 (omega (arith, r .known .room)) ∙ ap (λ (w : ℕ). w % 256) (r .counted)))
+            rw d (getD-set-same addresses (k - 1) (words % 256) 0 (omega (arith, r .known .room)) ∙ ap (λ (w : ℕ). w % 256) (r .counted)))
             (λ c. let d = eqb-false j (k - 1) c in
-                  getD-set-other addresses (k - 1) j (words % 256) 0 d ∙ r .known .held j (omega (arith, d)) y)
+            getD-set-other addresses (k - 1) j (words % 256) 0 d ∙ r .known .held j (omega (arith, d)) y)

@@ -31,8 +31,8 @@ label-fits l f =
     by-test (ltb (n + 1) (length l))
     (λ k. let q = ltb-true (n + 1) (length l) k in omega (arith, r .0))
     (λ k. let q = ltb-false (n + 1) (length l) k in
-          let z : getD l (n + 1) 0 ≡ 32 = eqb-true _ _ (both (leb 1 n && leb n 12 && eqb (getD l n 0) 58) _ (r .1) .1) in
-          let y : getD l (n + 1) 0 ≡ 0 = List·getD-eq-default l 0 q in absurd (omega arith))
+    let z : getD l (n + 1) 0 ≡ 32 = eqb-true _ _ (both (leb 1 n && leb n 12 && eqb (getD l n 0) 58) _ (r .1) .1) in
+    let y : getD l (n + 1) 0 ≡ 0 = List·getD-eq-default l 0 q in absurd (omega arith))
 
 -- a colon stands behind a label
 pub label-colon : (l : List ℕ) → (labelSize l ≡ 0 → ⊥) → getD l (labelSize l) 0 ≡ 58
@@ -96,16 +96,16 @@ pub no-colon : (l name : List ℕ) → 0 < length name → (getD l (length name)
 no-colon l name h f =
     by-test (same (labelOf l) name)
     (λ t.
-      let e = same-equal (labelOf l) name t in
-      let s : labelSize l ≡ length name = sym (label-length l) ∙ ap length e in
-      absurd (f (ap (λ (n : ℕ). getD l n 0) (sym s) ∙ label-colon l (given-labelled l name h e))))
+    let e = same-equal (labelOf l) name t in
+    let s : labelSize l ≡ length name = sym (label-length l) ∙ ap length e in
+    absurd (f (ap (λ (n : ℕ). getD l n 0) (sym s) ∙ label-colon l (given-labelled l name h e))))
     (λ t. t)
 
 pub other-last : (l name : List ℕ) → 0 < length name → (getD l (length name - 1) 0 ≡ getD name (length name - 1) 0 → ⊥) → same (labelOf l) name ≡ false
 other-last l name h f =
     by-test (same (labelOf l) name)
     (λ t.
-      let e = same-equal (labelOf l) name t in
-      let s : labelSize l ≡ length name = sym (label-length l) ∙ ap length e in
-      absurd (f (sym (getD-take (labelSize l) l (length name - 1) 0 (omega arith)) ∙ ap (λ (n : List ℕ). getD n (length name - 1) 0) e)))
+    let e = same-equal (labelOf l) name t in
+    let s : labelSize l ≡ length name = sym (label-length l) ∙ ap length e in
+    absurd (f (sym (getD-take (labelSize l) l (length name - 1) 0 (omega arith)) ∙ ap (λ (n : List ℕ). getD n (length name - 1) 0) e)))
     (λ t. t)

@@ -110,7 +110,7 @@ repeats-is t l k g r some e =
     let G = givenAt n (take (k - 1) (linesOf t)) 1 in
     let low : G < 1 + (k - 1) = given-before n (linesOf t) (k - 1) 1 (omega arith) in
     let there : givenAt n (linesOf t) 1 ≡ cond (eqb G 0) (1 + (k - 1)) G =
-          given-there n (linesOf t) (k - 1) 1 (omega arith) (omega (arith, r .from, r .within)) (rw (r .is) (same-self n)) in
+    given-there n (linesOf t) (k - 1) 1 (omega arith) (omega (arith, r .from, r .within)) (rw (r .is) (same-self n)) in
     rw (ne-eqb (labelSize l) 0 some) (by-test (eqb G 0)
     (λ z. rw z (let q : g ≡ k = e ∙ there ∙ rw z (omega (arith, r .from)) in rw (eq-eqb g k q)))
     (λ z. rw z (let q : g ≡ G = e ∙ there ∙ rw z in rw (ne-eqb g k (λ p. omega (arith, r .from))))))

@@ -27,7 +27,11 @@ fn label_size(line: &[u8]) -> usize
     if 12 < n {
         return 0;
     }
-    if (1 <= n) & (n <= 12) & (slices::byte_at(line, n) == b':') & (slices::byte_at(line, n + 1) == b' ') {
+    if (1 <= n)
+        & (n <= 12)
+        & (slices::byte_at(line, n) == b':')
+        & (slices::byte_at(line, n + 1) == b' ')
+    {
         return n;
     }
     0
@@ -284,7 +288,9 @@ pub fn label_fault(table: &[u8], text: &[u8], starts: &[usize], numbers: &[usize
     let mut k: usize = 1;
     while at < n {
         let end = line_end(text, at);
-        if is_repeat(text, &text[at..end], k, starts, numbers) | is_missing(table, text, &text[at..end], starts, numbers) {
+        if is_repeat(text, &text[at..end], k, starts, numbers)
+            | is_missing(table, text, &text[at..end], starts, numbers)
+        {
             return k;
         }
         k += 1;

@@ -59,7 +59,7 @@ unlabelled : (l : List ℕ) → all plain l ≡ true → labelSize l ≡ 0
 unfolding labelSize
 unlabelled l e =
     rw (third-false (leb 1 (runOf true l)) (leb (runOf true l) 12) (eqb (getD l (runOf true l) 0) 58) (eqb (getD l (runOf true l + 1) 0) 32)
-        (plain-byte (getD l (runOf true l) 0) (all-at plain 0 l refl e (runOf true l))))
+    (plain-byte (getD l (runOf true l) 0) (all-at plain 0 l refl e (runOf true l))))
 
 -- the line of a printed form
 module _ (i : Instr) (h : Printable i) where
@@ -130,13 +130,17 @@ reads-printed t is h few e =
   where
     words : wordCount (linesOf t) ≡ length is
     words = ap wordCount e ∙ words-are is h
+
     bad : badLine t ≡ 0
     bad = ap (λ (ls : List (List ℕ)). firstLine (λ l k. eqb (sizeOf l) 0) ls 1) e ∙ none-bad is 1 h
+
     faulty : badLabel t ≡ 0
     faulty = ap (λ (ls : List (List ℕ)). firstLine (isFaulty t) ls 1) e ∙ none-faulty t is 1 h
+
     sound : (ops args : List ℕ) → badBank ops || badBank args ≡ false → faultOf t ops args ≡ 0
     sound ops args g =
         good-fault t ops args g ∙ (fault-is t ∙ rw (eq-eqb (badLine t) 0 bad, eq-eqb (badLabel t) 0 faulty, le-ltb 256 (wordCount (linesOf t)) (omega (arith, words, few))))
+
     program : programOf t ≡ mapped shownOf is
     program = unfold programOf in (ap (λ (ls : List (List ℕ)). formsFrom (linesOf t) ls 0) e ∙ forms-all (linesOf t) is 0 h)
 

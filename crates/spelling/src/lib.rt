@@ -256,7 +256,13 @@ fn classify(word: &[u8]) -> Operand
     if (n == 2) & (b0 == b'R') & (d < 4) {
         return Operand::Register(d);
     }
-    let v = number(n, b0, b1, slices::byte_at(word, 2), slices::byte_at(word, 3));
+    let v = number(
+        n,
+        b0,
+        b1,
+        slices::byte_at(word, 2),
+        slices::byte_at(word, 3),
+    );
     if v < 256 {
         return Operand::Number(v as u8);
     }
@@ -271,7 +277,11 @@ fn fail(s: Scan) -> Scan
     ensures { λ r. ⌜ r ≡ failed s ⌝ }
 {
     let places = s.places;
-    Scan { ok: false, at: s.at, places }
+    Scan {
+        ok: false,
+        at: s.at,
+        places,
+    }
 }
 
 // A register r, up to i, at the place c of a spelling.
@@ -281,15 +291,27 @@ fn take_register(c: u8, r: u8, i: usize, s: Scan) -> Scan
     let mut places = s.places;
     if c == b'X' {
         places.d = r;
-        return Scan { ok: true, at: i, places };
+        return Scan {
+            ok: true,
+            at: i,
+            places,
+        };
     }
     if c == b'Y' {
         places.a = r;
-        return Scan { ok: true, at: i, places };
+        return Scan {
+            ok: true,
+            at: i,
+            places,
+        };
     }
     if c == b'Z' {
         places.b = r;
-        return Scan { ok: true, at: i, places };
+        return Scan {
+            ok: true,
+            at: i,
+            places,
+        };
     }
     fail(s)
 }
@@ -301,13 +323,21 @@ fn take_number(c: u8, v: u8, i: usize, s: Scan) -> Scan
     let mut places = s.places;
     if c == b'#' {
         places.imm = v;
-        return Scan { ok: true, at: i, places };
+        return Scan {
+            ok: true,
+            at: i,
+            places,
+        };
     }
     if c == b'@' {
         places.addr = v;
         places.from = 0;
         places.size = 0;
-        return Scan { ok: true, at: i, places };
+        return Scan {
+            ok: true,
+            at: i,
+            places,
+        };
     }
     fail(s)
 }
@@ -322,7 +352,11 @@ fn take_name(c: u8, i: usize, s: Scan) -> Scan
         places.addr = 0;
         places.from = s.at;
         places.size = i - s.at;
-        return Scan { ok: true, at: i, places };
+        return Scan {
+            ok: true,
+            at: i,
+            places,
+        };
     }
     fail(s)
 }
@@ -357,7 +391,11 @@ fn literal(line: &[u8], c: u8, s: Scan) -> Scan
     }
     if line[at] == c {
         let places = s.places;
-        return Scan { ok: true, at: at + 1, places };
+        return Scan {
+            ok: true,
+            at: at + 1,
+            places,
+        };
     }
     fail(s)
 }
@@ -385,8 +423,20 @@ fn scan_row(table: &[u8], line: &[u8], start: usize, k: usize) -> Scan
     requires { ⌜ (now table ≡ tableBytes) × (start ≤ length (now line)) ⌝ }
     ensures { λ r. ⌜ r ≡ readOf (now (line .entry)) start k ⌝ }
 {
-    let empty = Places { d: 0, a: 0, b: 0, imm: 0, addr: 0, from: 0, size: 0 };
-    let mut s = Scan { ok: true, at: start, places: empty };
+    let empty = Places {
+        d: 0,
+        a: 0,
+        b: 0,
+        imm: 0,
+        addr: 0,
+        from: 0,
+        size: 0,
+    };
+    let mut s = Scan {
+        ok: true,
+        at: start,
+        places: empty,
+    };
     let mut j: usize = 0;
     while j < ROW_WIDTH {
         let ok = s.ok;

@@ -29,8 +29,8 @@ unfolding countFrom wordCount
 count-is [] n m e h = ((λ l. omega (arith, e l)), (λ l. omega (arith, h l)))
 count-is (l ∷ ls) n m e h =
     let r = count-is ls (more n (sizeOf l)) (m + sizeOf l)
-          (λ b. by-test (ltb 256 n) (λ t. absurd (omega (arith, ltb-true 256 n t, rw t at b))) (λ t. rw t (omega (arith, e (ltb-false 256 n t)))))
-          (λ b. by-test (ltb 256 n) (λ t. omega (arith, h (ltb-true 256 n t))) (λ t. omega (arith, e (ltb-false 256 n t), rw t at b))) in
+    (λ b. by-test (ltb 256 n) (λ t. absurd (omega (arith, ltb-true 256 n t, rw t at b))) (λ t. rw t (omega (arith, e (ltb-false 256 n t)))))
+    (λ b. by-test (ltb 256 n) (λ t. omega (arith, h (ltb-true 256 n t))) (λ t. omega (arith, e (ltb-false 256 n t), rw t at b))) in
     ((λ b. omega (arith, r .0 b)), (λ b. omega (arith, r .1 b)))
 
 module _ (ls : List (List ℕ)) where

@@ -48,7 +48,7 @@ module _ (t : List ℕ) {from : ℕ} (at : ℕ) {e r a : ℕ} (h : from < length
   words-go w =
       let l = take (e - from) (drop from t) in
       let c : wordCount (linesOf (drop from t)) ≡ sizeOf l + wordCount (linesOf (drop a t)) =
-            ap wordCount (lines-after t from e a h f g m) ∙ count-one l (linesOf (drop a t)) in
+      ap wordCount (lines-after t from e a h f g m) ∙ count-one l (linesOf (drop a t)) in
       record { within = omega arith; low = omega (arith, w .low, c) }
 
   pub storing-goes : (byte : Instr → ℕ) {b₀ b b′ : List ℕ} → StoringLines byte t b₀ from at b → b′ ≡ storedIn byte (formsIn (lineOf (take (e - from) (drop from t))) (linesOf t) (take (e - from) (drop from t)) at) at b
@@ -98,7 +98,7 @@ clear-starts = record { within = omega arith; is = refl }
 pub clear-goes : {l₀ l : List ℕ} {i : ℕ} → Clearing l₀ i l → i < length l₀ → Clearing l₀ (i + 1) (set l i 0)
 clear-goes {l₀} {l} {i} r h =
     let d : zeros i ++ (0 ∷ drop (suc i) l₀) ≡ zeros (suc i) ++ drop (suc i) l₀ =
-          sym (append-assoc (zeros i) (0 ∷ []) (drop (suc i) l₀)) ∙ ap (λ (z : List ℕ). z ++ drop (suc i) l₀) (zeros-more i) in
+    sym (append-assoc (zeros i) (0 ∷ []) (drop (suc i) l₀)) ∙ ap (λ (z : List ℕ). z ++ drop (suc i) l₀) (zeros-more i) in
     record {
       within = omega arith;
       is = rw (r .is, drop-cons l₀ i 0 h, add-one i) (set-at (zeros i) (getD l₀ i 0) (drop (suc i) l₀) 0 i (length-zeros i) ∙ d);

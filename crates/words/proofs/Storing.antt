@@ -95,4 +95,4 @@ stored-whole byte is h =
     let e : 256 ≡ length (mapped byte is) + (256 - length is) = omega arith in
     stored-behind byte is [] 256 h
     ∙ sym (ap (λ (n : ℕ). take n (mapped byte is ++ zeros 256)) e
-        ∙ (take-append-add (mapped byte is) (zeros 256) (256 - length is) ∙ ap (λ (z : List ℕ). mapped byte is ++ z) (take-zeros (256 - length is) 256 (omega arith))))
+    ∙ (take-append-add (mapped byte is) (zeros 256) (256 - length is) ∙ ap (λ (z : List ℕ). mapped byte is ++ z) (take-zeros (256 - length is) 256 (omega arith))))

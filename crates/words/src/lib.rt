@@ -45,7 +45,12 @@ fn store_row(k: usize, p: Places, to: u8, at: usize, opcodes: &mut [u8], argumen
     if k < 81 {
         return;
     }
-    store(expansion::second_form(k, to, at), at + 1, opcodes, arguments);
+    store(
+        expansion::second_form(k, to, at),
+        at + 1,
+        opcodes,
+        arguments,
+    );
     if k < 86 {
         return;
     }
@@ -129,7 +134,17 @@ pub fn store_lines(
     let mut at: usize = 0;
     while from < n {
         let end = labels::line_end(text, from);
-        at = store_line(table, text, &text[from..end], at, addresses, starts, numbers, opcodes, arguments);
+        at = store_line(
+            table,
+            text,
+            &text[from..end],
+            at,
+            addresses,
+            starts,
+            numbers,
+            opcodes,
+            arguments,
+        );
         from = labels::next_line(end, n);
     }
 }

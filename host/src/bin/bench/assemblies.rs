@@ -74,37 +74,3 @@ fn time(text: &str) -> f64 {
     let call = || assemble_into(black_box(text.as_bytes()), &mut opcodes, &mut arguments);
     timed(call).1
 }
-
-#[cfg(test)]
-mod tests {
-    use super::*;
-
-    /// How often a figure is taken.
-    const ATTEMPTS: usize = 9;
-
-    /// The lowest of some figures: other programs run too, and slow down one attempt or another.
-    fn lowest(figure: impl Fn() -> f64) -> f64 {
-        (0..ATTEMPTS).map(|_| figure()).fold(f64::INFINITY, f64::min)
-    }
-
-    #[test]
-    fn a_members_text_takes_at_most_ten_times_the_references_time() {
-        let (name, text) = &assembled()[0];
-        let ratio = lowest(|| seconds(assemble_into, text) / seconds(reference::assemble, text));
-        assert!(ratio <= 10.0, "{name}: {ratio} times");
-    }
-
-    #[test]
-    fn labelled_lines_of_64_kb_take_less_than_half_a_second() {
-        let text = labelled_bytes(LABELLED[1]);
-        let seconds = lowest(|| time(&text));
-        assert!(seconds < 0.5, "{seconds} s");
-    }
-
-    #[test]
-    fn twice_the_lines_without_labels_take_about_twice_the_time() {
-        let [half, whole] = PLAIN.map(plain);
-        let ratio = lowest(|| time(&whole) / time(&half));
-        assert!(ratio < 3.0, "{ratio} times");
-    }
-}
