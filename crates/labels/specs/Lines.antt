@@ -7,7 +7,7 @@ use mathlib.Core.List.{List, [], _∷_}
 use lib.Dec.{eqb, leb}
 use lib.ListN.{length, getD, take, drop}
 use Rattle.spelling.specs.Reading.{matchedOf}
-use Rattle.spelling.specs.Spellings.{formsOf}
+use Rattle.spelling.specs.Spellings.{rowCount, formsOf}
 use Rattle.spelling.specs.Words.{runOf}
 use Rattle.spelling.specs.declared.Matched.{Matched}
 use Rattle.spelling.specs.declared.Matched.the-variants.{Fits, Misfit}
@@ -35,9 +35,9 @@ isLabelled l = not (eqb (labelSize l) 0)
 
 -- the row that a line fits behind its label
 unfoldable pub lineOf : List ℕ → Matched
-lineOf l = matchedOf l (cond (eqb (labelSize l) 0) 0 (labelSize l + 2)) 0 90
+lineOf l = matchedOf l (cond (eqb (labelSize l) 0) 0 (labelSize l + 2)) 0 rowCount
 
--- how many words a line stands for, 0 where it is no instruction or macro
+-- how many words a line stands for, whatever its addresses; 0 where it is no instruction or macro
 abbrev pub sizeIn : Matched → ℕ
 sizeIn (Fits k p) = length (formsOf k p 0 0)
 sizeIn Misfit = 0

@@ -12,6 +12,7 @@ use Rattle.isa.specs.declared.Instr.{Instr}
 use Rattle.numbers.specs.Numbers.{fieldsOf, instrOf}
 use Rattle.numbers.specs.declared.Fields.{Fields}
 use Rattle.spelling.specs.Reading.{readOf, fits}
+use Rattle.spelling.specs.Spellings.{rowCount}
 use Rattle.printing.specs.Print.{textOf, Prints}
 use Rattle.printing.specs.Shown.{shownOf}
 use Rattle.printing.specs.declared.Printed.{Printed}
@@ -41,7 +42,7 @@ ReadsPrinted t = (is : List Instr) → AllPrintable is → length is ≤ 256 →
 
 -- a line is read in one way only: no line fits two rows of the table
 abbrev pub OneRow : Type 0
-OneRow = (line : List ℕ) (start j k : ℕ) → j < 90 → k < 90 → fits line (readOf line start j) ≡ true → fits line (readOf line start k) ≡ true → j ≡ k
+OneRow = (line : List ℕ) (start j k : ℕ) → j < rowCount → k < rowCount → fits line (readOf line start j) ≡ true → fits line (readOf line start k) ≡ true → j ≡ k
 
 -- the answer to an instruction to be printed
 pub record PrintedAs (x : Fields) (r : Printed) : Type 0 where

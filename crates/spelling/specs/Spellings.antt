@@ -139,6 +139,13 @@ macros =
     ∷ macro "mov LCDcmd, Init" (λ p to at. LcdCmd 0x38 ∷ LcdCmd 0x0E ∷ LcdCmd 0x06 ∷ [])
     ∷ []
 
+-- how many rows the table has, and the first of the macros among them
+abbrev pub rowCount : ℕ
+rowCount = 90
+
+abbrev pub firstMacro : ℕ
+firstMacro = 70
+
 -- the table: 003's rows ALU* Rd, Ra, Rb (rows 0 to 15 here), add Rd, Ra, Imm8 (16), ALU* NONE, Ra, Rb (17 to 32) and the others
 -- (33 to 69), then the macros (70 to 89)
 unfoldable pub spellings : List (List ℕ)
@@ -174,4 +181,4 @@ formOf k p to = instrOf ((formAt k, p .d, p .a, functionAt k, p .b, numberIn p t
 -- the forms of a row, with the address that stands for @, for a line at an address
 unfoldable pub formsOf : ℕ → Places → (to at : ℕ) → List Instr
 formsOf k p to at =
-    cond (ltb k 70) (formOf k p to ∷ []) (getD (mapped (λ (m : Macro). m .forms p to at) macros) (k - 70) [])
+    cond (ltb k firstMacro) (formOf k p to ∷ []) (getD (mapped (λ (m : Macro). m .forms p to at) macros) (k - firstMacro) [])
