@@ -5,7 +5,7 @@ use crate::functions::functions;
 use crate::source::{below, crates, Source};
 
 /// The functions that a crate's users begin with, crate by crate.
-const ENTRIES: [(&str, &[&str]); 10] = [
+const ENTRIES: [(&str, &[&str]); 12] = [
     ("decoding", &["decode"]),
     ("encoding", &["encode", "put"]),
     ("classes", &["classify"]),
@@ -15,6 +15,8 @@ const ENTRIES: [(&str, &[&str]); 10] = [
     ("machine", &["run"]),
     ("timing", &["running_time"]),
     ("report", &["answer"]),
+    ("printing", &["print"]),
+    ("assembling", &["assemble"]),
     ("demands", &DEMANDS),
 ];
 
