@@ -10,8 +10,8 @@ use lib.Dec.{eqb}
 use lib.ListN.{length, getD, take, drop}
 use borrow.Author.Tests.{eq-eqb, ne-eqb, eqb-true, eqb-false}
 use Rattle.slices.proofs.Bools.{by-test}
-use Rattle.spelling.specs.declared.Matched.{Matched}
-use Rattle.spelling.specs.declared.Matched.the-variants.{Fits, Misfit}
+use Rattle.reading.specs.declared.Matched.{Matched}
+use Rattle.reading.specs.declared.Matched.the-variants.{Fits, Misfit}
 use Rattle.spelling.specs.declared.Places.{Places}
 use Rattle.labels.specs.Lines.{linesOf, labelSize, labelOf, lineOf, nameIn, nameOf}
 use Rattle.labels.specs.Labels.{same, givenAt, repeats, misses}

@@ -8,10 +8,10 @@ use mathlib.Core.List.{List, [], _∷_}
 use lib.Dec.{eqb, ltb}
 use lib.ListN.{length}
 use Rattle.slices.proofs.Bools.{by-test}
-use Rattle.spelling.specs.Reading.{readOf, fits, matchedOf}
+use Rattle.reading.specs.Reading.{readOf, fits, matchedOf}
 use Rattle.spelling.specs.Spellings.{formsOf}
-use Rattle.spelling.specs.declared.Matched.{Matched}
-use Rattle.spelling.specs.declared.Matched.the-variants.{Fits, Misfit}
+use Rattle.reading.specs.declared.Matched.{Matched}
+use Rattle.reading.specs.declared.Matched.the-variants.{Fits, Misfit}
 use Rattle.spelling.specs.declared.Places.{Places}
 use Rattle.spelling.proofs.Tables.{same-below}
 use Rattle.labels.specs.Lines.{labelSize, lineOf, sizeIn, sizeOf}

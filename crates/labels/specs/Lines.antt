@@ -6,11 +6,11 @@ use mathlib.Core.Bool.{Bool, true, cond, not, _&&_}
 use mathlib.Core.List.{List, [], _∷_}
 use lib.Dec.{eqb, leb}
 use lib.ListN.{length, getD, take, drop}
-use Rattle.spelling.specs.Reading.{matchedOf}
+use Rattle.reading.specs.Reading.{matchedOf}
 use Rattle.spelling.specs.Spellings.{rowCount, formsOf}
 use Rattle.spelling.specs.Words.{runOf}
-use Rattle.spelling.specs.declared.Matched.{Matched}
-use Rattle.spelling.specs.declared.Matched.the-variants.{Fits, Misfit}
+use Rattle.reading.specs.declared.Matched.{Matched}
+use Rattle.reading.specs.declared.Matched.the-variants.{Fits, Misfit}
 
 -- one byte more at the front of the first line
 abbrev pub onFirst : ℕ → List (List ℕ) → List (List ℕ)

@@ -1,5 +1,5 @@
 // The lines of a text, how many words they stand for, and the labels that they give and use.
-use spelling::Matched;
+use reading::Matched;
 ghost use mathlib.Core.Path.{_≡_};
 ghost use mathlib.Core.Bool.{Bool, false};
 ghost use lib.ListN.{length, take, drop, set};
@@ -44,9 +44,9 @@ pub fn read_line(table: &[u8], line: &[u8]) -> Matched
 {
     let n = label_size(line);
     if n == 0 {
-        return spelling::find_row(table, line, 0);
+        return reading::find_row(table, line, 0);
     }
-    spelling::find_row(table, line, n + 2)
+    reading::find_row(table, line, n + 2)
 }
 
 // The words of a row of the table.

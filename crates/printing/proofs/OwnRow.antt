@@ -17,7 +17,7 @@ use Rattle.spelling.specs.declared.Operand.the-variants.{Register, Number}
 use Rattle.spelling.specs.declared.Places.{Places}
 use Rattle.spelling.specs.Spellings.{spellings, patternOf}
 use Rattle.spelling.specs.Words.{inWord, runOf, digitOf, numberOf, operandOf}
-use Rattle.spelling.specs.Reading.{isPlace, emptyPlaces, scanned, tookOf, literalOf, byteOf, scanOf, readOf}
+use Rattle.reading.specs.Reading.{isPlace, emptyPlaces, scanned, tookOf, literalOf, byteOf, scanOf, readOf}
 use Rattle.spelling.proofs.Rows.{all, all-at}
 use Rattle.spelling.proofs.Tables.{same-below}
 use Rattle.printing.specs.Print.{register, shownAt, filled}

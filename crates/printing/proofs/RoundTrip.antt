@@ -14,11 +14,11 @@ use Rattle.isa.specs.Encode.{Valid}
 use Rattle.isa.specs.declared.Instr.{Instr}
 use Rattle.numbers.specs.Numbers.{fieldsOf, instrOf}
 use Rattle.numbers.specs.declared.Fields.{Fields}
-use Rattle.spelling.specs.declared.Matched.the-variants.{Fits}
+use Rattle.reading.specs.declared.Matched.the-variants.{Fits}
 use Rattle.spelling.specs.declared.Places.{Places}
-use Rattle.spelling.specs.Reading.{emptyPlaces, fits, readOf, matchedOf}
+use Rattle.reading.specs.Reading.{emptyPlaces, fits, readOf, matchedOf}
 use Rattle.spelling.specs.Spellings.{spellings, patternOf, formAt, functionAt, formOf, formsOf}
-use Rattle.spelling.proofs.OneRow.{row-found}
+use Rattle.reading.proofs.OneRow.{row-found}
 use Rattle.spelling.proofs.Tables.{same-below}
 use Rattle.printing.specs.Print.{filled, rowOf, textOf}
 use Rattle.printing.specs.Shown.{shownFields, shownOf}

@@ -21,8 +21,8 @@ use Rattle.numbers.specs.Numbers.{fieldsOf, instrOf}
 use Rattle.numbers.specs.declared.Fields.{Fields}
 use Rattle.spelling.specs.Words.{runOf}
 use Rattle.spelling.specs.Spellings.{formsOf}
-use Rattle.spelling.specs.declared.Matched.{Matched}
-use Rattle.spelling.specs.declared.Matched.the-variants.{Fits}
+use Rattle.reading.specs.declared.Matched.{Matched}
+use Rattle.reading.specs.declared.Matched.the-variants.{Fits}
 use Rattle.spelling.proofs.Rows.{all, all-at}
 use Rattle.printing.specs.Print.{rowOf, textOf, textWidth, columns, printedOf, Prints}
 use Rattle.printing.specs.declared.Printed.{Printed}

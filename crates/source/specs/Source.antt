@@ -11,7 +11,7 @@ use Rattle.isa.specs.Encode.{Valid}
 use Rattle.isa.specs.declared.Instr.{Instr}
 use Rattle.numbers.specs.Numbers.{fieldsOf, instrOf}
 use Rattle.numbers.specs.declared.Fields.{Fields}
-use Rattle.spelling.specs.Reading.{readOf, fits}
+use Rattle.reading.specs.Reading.{readOf, fits}
 use Rattle.spelling.specs.Spellings.{rowCount}
 use Rattle.printing.specs.Print.{textOf, Prints}
 use Rattle.printing.specs.Shown.{shownOf}

@@ -1,4 +1,3 @@
 pub mod Spellings
 pub mod Words
-pub mod Reading
 pub mod internal

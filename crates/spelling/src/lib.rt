@@ -1,12 +1,11 @@
-// 003's spellings of its instructions and macros, and the row of them that a line fits.
+// 003's spellings of its instructions and macros in one table, and what a word of a line can be.
 ghost use mathlib.Core.Path.{_≡_};
 ghost use mathlib.Core.Bool.{Bool};
 ghost use lib.ListN.{length, getD, drop};
 ghost use Prim.Native.Nat.{_+_, _≤_};
 ghost use Rattle.spelling.specs.Spellings.{patternOf};
 ghost use Rattle.spelling.specs.Words.{inWord, runOf, digitOf, decimalOf, numberOf, operandOf};
-ghost use Rattle.spelling.specs.Reading.{isPlace, failed, tookRegister, tookNumber, tookName, tookOf, literalOf, byteOf, readOf, matchedOf};
-ghost use Rattle.spelling.specs.internal.Rows.{tableBytes, beginsOf, NextRow};
+ghost use Rattle.spelling.specs.internal.Rows.{tableBytes};
 
 // What a word of a line is.
 pub enum Operand {
@@ -26,19 +25,6 @@ pub struct Places {
     pub addr: u8,
     pub from: usize,
     pub size: usize,
-}
-
-// How far a line is read by a spelling.
-pub struct Scan {
-    pub ok: bool,
-    pub at: usize,
-    pub places: Places,
-}
-
-// The row that a line fits and what stands in its places.
-pub enum Matched {
-    Fits(usize, Places),
-    Misfit,
 }
 
 // The rows of the table.
@@ -246,7 +232,7 @@ fn number(n: usize, b0: u8, b1: u8, b2: u8, b3: u8) -> u16
 }
 
 // What a word is.
-fn classify(word: &[u8]) -> Operand
+pub fn classify(word: &[u8]) -> Operand
     ensures { λ r. ⌜ r ≡ operandOf (now (word .entry)) ⌝ }
 {
     let n = word.len();
@@ -271,237 +257,4 @@ fn classify(word: &[u8]) -> Operand
         return Operand::Name;
     }
     Operand::Other
-}
-
-fn fail(s: Scan) -> Scan
-    ensures { λ r. ⌜ r ≡ failed s ⌝ }
-{
-    let places = s.places;
-    Scan {
-        ok: false,
-        at: s.at,
-        places,
-    }
-}
-
-// A register r, up to i, at the place c of a spelling.
-fn take_register(c: u8, r: u8, i: usize, s: Scan) -> Scan
-    ensures { λ v. ⌜ v ≡ tookRegister c r i s ⌝ }
-{
-    let mut places = s.places;
-    if c == b'X' {
-        places.d = r;
-        return Scan {
-            ok: true,
-            at: i,
-            places,
-        };
-    }
-    if c == b'Y' {
-        places.a = r;
-        return Scan {
-            ok: true,
-            at: i,
-            places,
-        };
-    }
-    if c == b'Z' {
-        places.b = r;
-        return Scan {
-            ok: true,
-            at: i,
-            places,
-        };
-    }
-    fail(s)
-}
-
-// A number v, up to i, at the place c of a spelling.
-fn take_number(c: u8, v: u8, i: usize, s: Scan) -> Scan
-    ensures { λ r. ⌜ r ≡ tookNumber c v i s ⌝ }
-{
-    let mut places = s.places;
-    if c == b'#' {
-        places.imm = v;
-        return Scan {
-            ok: true,
-            at: i,
-            places,
-        };
-    }
-    if c == b'@' {
-        places.addr = v;
-        places.from = 0;
-        places.size = 0;
-        return Scan {
-            ok: true,
-            at: i,
-            places,
-        };
-    }
-    fail(s)
-}
-
-// A name, up to i, at the place c of a spelling.
-fn take_name(c: u8, i: usize, s: Scan) -> Scan
-    requires { ⌜ s .at ≤ i ⌝ }
-    ensures { λ r. ⌜ r ≡ tookName c i s ⌝ }
-{
-    let mut places = s.places;
-    if c == b'@' {
-        places.addr = 0;
-        places.from = s.at;
-        places.size = i - s.at;
-        return Scan {
-            ok: true,
-            at: i,
-            places,
-        };
-    }
-    fail(s)
-}
-
-// An operand, up to i, at the place c of a spelling.
-fn take(o: Operand, c: u8, i: usize, s: Scan) -> Scan
-    requires { ⌜ s .at ≤ i ⌝ }
-    ensures { λ r. ⌜ r ≡ tookOf o c i s ⌝ }
-{
-    match o {
-        Operand::Register(r) => take_register(c, r, i, s),
-        Operand::Number(v) => take_number(c, v, i, s),
-        Operand::Name => take_name(c, i, s),
-        Operand::Other => fail(s),
-    }
-}
-
-// Whether a byte of a spelling stands for a register, a number or an address.
-fn is_place(c: u8) -> bool
-    ensures { λ r. ⌜ r ≡ isPlace c ⌝ }
-{
-    (c == b'X') | (c == b'Y') | (c == b'Z') | (c == b'#') | (c == b'@')
-}
-
-// A byte c of a spelling that stands for itself.
-fn literal(line: &[u8], c: u8, s: Scan) -> Scan
-    ensures { λ r. ⌜ r ≡ literalOf (now (line .entry)) c s ⌝ }
-{
-    let at = s.at;
-    if line.len() <= at {
-        return fail(s);
-    }
-    if line[at] == c {
-        let places = s.places;
-        return Scan {
-            ok: true,
-            at: at + 1,
-            places,
-        };
-    }
-    fail(s)
-}
-
-// One byte c of a spelling.
-fn scan_byte(line: &[u8], c: u8, s: Scan) -> Scan
-    requires { ⌜ s .at ≤ length (now line) ⌝ }
-    ensures { λ r. ⌜ r ≡ byteOf (now (line .entry)) c s ⌝ }
-{
-    let ok = s.ok;
-    if !ok {
-        return s;
-    }
-    if is_place(c) {
-        let at = s.at;
-        let n = word_size(line, at, false);
-        let o = classify(&line[at..at + n]);
-        return take(o, c, at + n, s);
-    }
-    literal(line, c, s)
-}
-
-// A line read from a place on by the spelling in row k.
-fn scan_row(table: &[u8], line: &[u8], start: usize, k: usize) -> Scan
-    requires { ⌜ (now table ≡ tableBytes) × (start ≤ length (now line)) ⌝ }
-    ensures { λ r. ⌜ r ≡ readOf (now (line .entry)) start k ⌝ }
-{
-    let empty = Places {
-        d: 0,
-        a: 0,
-        b: 0,
-        imm: 0,
-        addr: 0,
-        from: 0,
-        size: 0,
-    };
-    let mut s = Scan {
-        ok: true,
-        at: start,
-        places: empty,
-    };
-    let mut j: usize = 0;
-    while j < ROW_WIDTH {
-        let ok = s.ok;
-        if !ok {
-            return s;
-        }
-        let c = pattern(table, k, j);
-        if c == b'.' {
-            return s;
-        }
-        s = scan_byte(line, c, s);
-        j += 1;
-    }
-    s
-}
-
-// Whether the spelling in row k begins with three bytes.
-fn begins(table: &[u8], k: usize, x: u8, y: u8, z: u8) -> bool
-    requires { ⌜ now table ≡ tableBytes ⌝ }
-    ensures { λ r. ⌜ r ≡ beginsOf k x y z ⌝ }
-{
-    if pattern(table, k, 0) != x {
-        return false;
-    }
-    if pattern(table, k, 1) != y {
-        return false;
-    }
-    pattern(table, k, 2) == z
-}
-
-// The next row from k on that begins with three bytes; past the table if there is none.
-fn next_row(table: &[u8], k: usize, x: u8, y: u8, z: u8) -> usize
-    requires { ⌜ (now table ≡ tableBytes) × (k ≤ 90) ⌝ }
-    ensures { λ r. ⌜ NextRow k x y z r ⌝ }
-{
-    let mut next = k;
-    while next < ROW_COUNT {
-        if begins(table, next, x, y, z) {
-            return next;
-        }
-        next += 1;
-    }
-    next
-}
-
-// The row that a line fits from a place on. Rows that begin with other bytes are not tried.
-pub fn find_row(table: &[u8], line: &[u8], start: usize) -> Matched
-    requires { ⌜ (now table ≡ tableBytes) × (start ≤ length (now line)) ⌝ }
-    ensures { λ r. ⌜ r ≡ matchedOf (now (line .entry)) start 0 90 ⌝ }
-{
-    let n = line.len();
-    if n - start < 3 {
-        return Matched::Misfit;
-    }
-    let x = line[start];
-    let y = line[start + 1];
-    let z = line[start + 2];
-    let mut k = next_row(table, 0, x, y, z);
-    while k < ROW_COUNT {
-        let s = scan_row(table, line, start, k);
-        if s.ok & (s.at == n) {
-            let places = s.places;
-            return Matched::Fits(k, places);
-        }
-        k = next_row(table, k + 1, x, y, z);
-    }
-    Matched::Misfit
 }

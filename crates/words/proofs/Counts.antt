@@ -11,8 +11,8 @@ use borrow.Author.Tests.{ltb-true, ltb-false, lt-ltb, le-ltb, eqb-true, eqb-fals
 use Rattle.slices.proofs.Bools.{by-test}
 use Rattle.isa.specs.declared.Instr.{Instr}
 use Rattle.spelling.specs.Spellings.{formsOf}
-use Rattle.spelling.specs.declared.Matched.{Matched}
-use Rattle.spelling.specs.declared.Matched.the-variants.{Fits, Misfit}
+use Rattle.reading.specs.declared.Matched.{Matched}
+use Rattle.reading.specs.declared.Matched.the-variants.{Fits, Misfit}
 use Rattle.spelling.specs.declared.Places.{Places}
 use Rattle.spelling.proofs.Tables.{same-below}
 use Rattle.labels.specs.Lines.{linesOf, labelOf, lineOf, sizeIn, sizeOf, wordCount}

@@ -14,8 +14,8 @@ use Rattle.isa.specs.declared.Encoded.{Encoded}
 use Rattle.isa.specs.declared.Encoded.the-variants.{Bytes, BadBank, BadRegister, BadFunction}
 use Rattle.isa.specs.declared.Instr.{Instr}
 use Rattle.spelling.specs.Spellings.{formsOf}
-use Rattle.spelling.specs.declared.Matched.{Matched}
-use Rattle.spelling.specs.declared.Matched.the-variants.{Fits, Misfit}
+use Rattle.reading.specs.declared.Matched.{Matched}
+use Rattle.reading.specs.declared.Matched.the-variants.{Fits, Misfit}
 use Rattle.spelling.specs.declared.Places.{Places}
 use Rattle.labels.specs.Lines.{linesOf, lineOf, sizeOf}
 use Rattle.labels.specs.Labels.{addressOf}

@@ -1,7 +1,7 @@
 // The words of a text stored in two banks.
 use isa::Encoded;
 use isa::Instr;
-use spelling::Matched;
+use reading::Matched;
 use spelling::Places;
 ghost use mathlib.Core.Path.{_≡_};
 ghost use lib.ListN.{length, set, replicate};

@@ -1,5 +1,5 @@
 use borrow.Author.Needs.{needs}
-use Rattle.spelling.proofs.OneRow.{one-row}
+use Rattle.reading.proofs.OneRow.{one-row}
 use Rattle.source.proofs.Printed.{reads-printed}
 use Rattle.source.proofs.cesca_assemble.Statement.{statement}
 use Rattle.source.proofs.cesca_assemble.Tie as tie

@@ -3,10 +3,10 @@
 use borrow.Author.Needs.{needs}
 use mathlib.Core.Path.{sym, _∙_}
 use Prim.Native.Nat.{_-_}
-use Rattle.spelling.specs.internal.Rows.{NextRow}
-use Rattle.spelling.proofs.Seeks.{next-starts, next-goes}
-use Rattle.spelling.proofs.next_row.Statement.{statement}
-use Rattle.spelling.proofs.next_row.Tie as tie
+use Rattle.reading.specs.internal.Rows.{NextRow}
+use Rattle.reading.proofs.Seeks.{next-starts, next-goes}
+use Rattle.reading.proofs.next_row.Statement.{statement}
+use Rattle.reading.proofs.next_row.Tie as tie
 
 pub next-row-spec : {M : Type 1} → statement M
 next-row-spec =

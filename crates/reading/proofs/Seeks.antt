@@ -12,12 +12,12 @@ use lib.ListN.{length, getD}
 use borrow.Author.Tests.{eq-eqb, ltb-true, ltb-false, not-true, eqb-true}
 use Rattle.slices.proofs.Bools.{by-test, both}
 use Rattle.slices.proofs.Below as below
-use Rattle.spelling.specs.declared.Matched.the-variants.{Fits, Misfit}
-use Rattle.spelling.specs.declared.Scan.{Scan}
+use Rattle.reading.specs.declared.Matched.the-variants.{Fits, Misfit}
+use Rattle.reading.specs.declared.Scan.{Scan}
 use Rattle.spelling.specs.Spellings.{spellings, patternOf}
-use Rattle.spelling.specs.Reading.{isPlace, scanned, emptyPlaces, literalOf, byteOf, scanOf, readOf, fits, matchedOf}
-use Rattle.spelling.specs.internal.Rows.{beginsOf, NextRow}
-use Rattle.spelling.proofs.Scans.{scan-failed}
+use Rattle.reading.specs.Reading.{isPlace, scanned, emptyPlaces, literalOf, byteOf, scanOf, readOf, fits, matchedOf}
+use Rattle.reading.specs.internal.Rows.{beginsOf, NextRow}
+use Rattle.reading.proofs.Scans.{scan-failed}
 
 -- a scan that has failed does not fit
 pub failed-misfits : (l p : List ℕ) (s : Scan) → s .ok ≡ false → fits l (scanOf l p s) ≡ false

@@ -11,12 +11,12 @@ use lib.ListN.{length, getD, take, drop, length-drop}
 use lib.Seq.{getD-drop}
 use borrow.Author.Tests.{lt-ltb, le-leb, eq-eqb, eqb-true, ltb-true, ltb-false}
 use Rattle.slices.proofs.Bools.{by-test, both, neither}
 use Rattle.spelling.specs.declared.Operand.{Operand}
 use Rattle.spelling.specs.declared.Operand.the-variants.{Register, Number, Name, Other}
-use Rattle.spelling.specs.declared.Scan.{Scan}
+use Rattle.reading.specs.declared.Scan.{Scan}
 use Rattle.spelling.specs.Words.{figure, inWord, runOf, digitOf, numberOf, operandOf, wordOf}
-use Rattle.spelling.specs.Reading.{isPlace, tookOf, literalOf, byteOf, scanOf, fits}
-use Rattle.spelling.proofs.Seeks.{failed-misfits}
+use Rattle.reading.specs.Reading.{isPlace, tookOf, literalOf, byteOf, scanOf, fits}
+use Rattle.reading.proofs.Seeks.{failed-misfits}
 
 -- X, Y and Z
 abbrev pub ofRegister : ℕ → Bool

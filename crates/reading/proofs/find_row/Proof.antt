@@ -4,9 +4,9 @@ use borrow.Author.Needs.{needs}
 use mathlib.Core.Path.{refl}
 use native.Mathlib.Omega.{arith}
 use Prim.Native.Nat.{_-_}
-use Rattle.spelling.proofs.Seeks.{Seeking, few-fit-none, seek-starts, seek-goes, seek-hits, seek-ends}
-use Rattle.spelling.proofs.find_row.Statement.{statement}
-use Rattle.spelling.proofs.find_row.Tie as tie
+use Rattle.reading.proofs.Seeks.{Seeking, few-fit-none, seek-starts, seek-goes, seek-hits, seek-ends}
+use Rattle.reading.proofs.find_row.Statement.{statement}
+use Rattle.reading.proofs.find_row.Tie as tie
 
 pub find-row-spec : {M : Type 1} → statement M
 find-row-spec =

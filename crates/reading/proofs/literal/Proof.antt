@@ -1,8 +1,8 @@
-use Rattle.spelling.specs.Reading.{literalOf}
+use Rattle.reading.specs.Reading.{literalOf}
 use borrow.Author.Tests.{lt-ltb, le-ltb, eq-eqb, ne-eqb}
 use borrow.Author.Needs.{needs}
-use Rattle.spelling.proofs.literal.Statement.{statement}
-use Rattle.spelling.proofs.literal.Tie as tie
+use Rattle.reading.proofs.literal.Statement.{statement}
+use Rattle.reading.proofs.literal.Tie as tie
 
 pub literal-spec : {M : Type 1} → statement M
 unfolding literalOf

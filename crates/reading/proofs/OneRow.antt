@@ -11,15 +11,15 @@ use lib.ListN.{getD, drop}
 use borrow.Author.Tests.{eqb-true, ltb-true, ltb-false, not-true}
 use Rattle.slices.proofs.Bools.{by-test, both, neither}
 use Rattle.slices.proofs.Below as below
-use Rattle.spelling.specs.declared.Matched.the-variants.{Fits}
+use Rattle.reading.specs.declared.Matched.the-variants.{Fits}
 use Rattle.spelling.specs.declared.Operand.{Operand}
 use Rattle.spelling.specs.declared.Operand.the-variants.{Register, Number, Name, Other}
-use Rattle.spelling.specs.declared.Scan.{Scan}
+use Rattle.reading.specs.declared.Scan.{Scan}
 use Rattle.spelling.specs.Spellings.{spellings, patternOf}
 use Rattle.spelling.specs.Words.{operandOf, wordOf}
-use Rattle.spelling.specs.Reading.{isPlace, byteOf, scanOf, readOf, fits, matchedOf}
-use Rattle.spelling.proofs.Seeks.{skip-to, seek-hits}
-use Rattle.spelling.proofs.Fronts.{ofRegister, takes, allows, Read, fit-read, fit-inside, fit-ended}
+use Rattle.reading.specs.Reading.{isPlace, byteOf, scanOf, readOf, fits, matchedOf}
+use Rattle.reading.proofs.Seeks.{skip-to, seek-hits}
+use Rattle.reading.proofs.Fronts.{ofRegister, takes, allows, Read, fit-read, fit-inside, fit-ended}
 
 -- the only first byte that may stand at c, where c is neither # nor @
 abbrev only : ℕ → ℕ

@@ -1,9 +1,9 @@
 use borrow.Author.Tests.{not-true, not-false}
 use native.Mathlib.Nat.{add-sub-cancel-left}
-use Rattle.spelling.specs.Reading.{byteOf}
+use Rattle.reading.specs.Reading.{byteOf}
 use borrow.Author.Needs.{needs}
-use Rattle.spelling.proofs.scan_byte.Statement.{statement}
-use Rattle.spelling.proofs.scan_byte.Tie as tie
+use Rattle.reading.proofs.scan_byte.Statement.{statement}
+use Rattle.reading.proofs.scan_byte.Tie as tie
 
 pub scan-byte-spec : {M : Type 1} → statement M
 unfolding byteOf

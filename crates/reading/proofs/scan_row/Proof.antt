@@ -1,10 +1,10 @@
-use Rattle.spelling.proofs.Scans.{Scanning, scan-start, scan-stop, scan-dot, scan-full, scan-pass}
-use Rattle.spelling.specs.Reading.{scanned, emptyPlaces, readOf}
+use Rattle.reading.proofs.Scans.{Scanning, scan-start, scan-stop, scan-dot, scan-full, scan-pass}
+use Rattle.reading.specs.Reading.{scanned, emptyPlaces, readOf}
 use borrow.Author.Tests.{not-true}
 use Prim.Native.Nat.{_-_}
 use borrow.Author.Needs.{needs}
-use Rattle.spelling.proofs.scan_row.Statement.{statement}
-use Rattle.spelling.proofs.scan_row.Tie as tie
+use Rattle.reading.proofs.scan_row.Statement.{statement}
+use Rattle.reading.proofs.scan_row.Tie as tie
 
 pub scan-row-spec : {M : Type 1} → statement M
 unfolding readOf

@@ -1,6 +1,6 @@
 use borrow.Author.Needs.{needs}
-use Rattle.spelling.proofs.take.Statement.{statement}
-use Rattle.spelling.proofs.take.Tie as tie
+use Rattle.reading.proofs.take.Statement.{statement}
+use Rattle.reading.proofs.take.Tie as tie
 
 pub take-spec : {M : Type 1} → statement M
 take-spec =

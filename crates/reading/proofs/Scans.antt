@@ -10,14 +10,14 @@ use lib.Dec.{eqb, ltb}
 use lib.ListN.{length, getD, drop, drop-of-length-le, length-drop}
 use lib.Seq.{drop-cons}
 use borrow.Author.Tests.{ltb-true}
 use Rattle.spelling.specs.declared.Operand.{Operand}
 use Rattle.spelling.specs.declared.Operand.the-variants.{Register, Number, Name, Other}
-use Rattle.spelling.specs.declared.Scan.{Scan}
+use Rattle.reading.specs.declared.Scan.{Scan}
 use Rattle.spelling.specs.Words.{inWord, runOf, operandOf, wordOf}
 use Rattle.spelling.specs.Spellings.{patternOf}
-use Rattle.spelling.specs.Reading.{isPlace, tookOf, literalOf, byteOf, scanOf}
+use Rattle.reading.specs.Reading.{isPlace, tookOf, literalOf, byteOf, scanOf}
 use Rattle.slices.proofs.Bools.{by-test, both}
 use Rattle.spelling.proofs.Rows.{short, no-dots, dot-ends, not-dot}
 
 run-short : (only : Bool) (l : List ℕ) → runOf only l ≤ length l
 unfolding runOf

@@ -5,14 +5,14 @@ use mathlib.Core.Bool.{Bool, true, false, cond, not, _&&_, _||_}
 use mathlib.Core.List.{List, [], _∷_}
 use lib.Dec.{eqb, leb, ltb}
 use lib.ListN.{length, getD, drop}
-use Rattle.spelling.specs.declared.Matched.{Matched}
-use Rattle.spelling.specs.declared.Matched.the-variants.{Fits, Misfit}
+use Rattle.reading.specs.declared.Matched.{Matched}
+use Rattle.reading.specs.declared.Matched.the-variants.{Fits, Misfit}
 use Rattle.spelling.specs.declared.Operand.{Operand}
 use Rattle.spelling.specs.declared.Operand.the-variants.{Register, Number, Name, Other}
 use Rattle.spelling.specs.declared.Places.{Places}
-use Rattle.spelling.specs.declared.Scan.{Scan}
+use Rattle.reading.specs.declared.Scan.{Scan}
 use Rattle.spelling.specs.Spellings.{patternOf}
 use Rattle.spelling.specs.Words.{runOf, operandOf, wordOf}
 
 -- X, Y, Z, # and @: what stands for a register, a number or an address in a spelling
 abbrev pub isPlace : ℕ → Bool

@@ -1,7 +1,7 @@
 use borrow.Author.Needs.{needs}
 use borrow.Author.Tests.{eq-eqb, ne-eqb}
-use Rattle.spelling.proofs.begins.Statement.{statement}
-use Rattle.spelling.proofs.begins.Tie as tie
+use Rattle.reading.proofs.begins.Statement.{statement}
+use Rattle.reading.proofs.begins.Tie as tie
 
 pub begins-spec : {M : Type 1} → statement M
 begins-spec =

@@ -1,0 +1,4 @@
+pub mod Fronts
+pub mod OneRow
+pub mod Scans
+pub mod Seeks
