@@ -1,4 +1,5 @@
 pub mod Fronts
+pub mod InRange
 pub mod OneRow
 pub mod Scans
 pub mod Seeks

@@ -1,1 +1,2 @@
+pub mod AllValid
 pub mod Printed

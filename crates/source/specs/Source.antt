@@ -17,7 +17,7 @@ use Rattle.printing.specs.Print.{textOf, Prints}
 use Rattle.printing.specs.Shown.{shownOf}
 use Rattle.printing.specs.declared.Printed.{Printed}
 use Rattle.labels.specs.Lines.{linesOf}
-use Rattle.words.specs.Program.{opcodeOf, argumentOf, bankOf}
+use Rattle.words.specs.Program.{programOf, opcodeOf, argumentOf, bankOf}
 use Rattle.assembling.specs.Assemble.{faultOf, answerOf, bankAfter, Assembles}
 use Rattle.assembling.specs.declared.Assembled.{Assembled}
 
@@ -44,6 +44,11 @@ ReadsPrinted t = (is : List Instr) → AllPrintable is → length is ≤ 256 →
 abbrev pub OneRow : Type 0
 OneRow = (line : List ℕ) (start j k : ℕ) → j < rowCount → k < rowCount → fits line (readOf line start j) ≡ true → fits line (readOf line start k) ≡ true → j ≡ k
 
+-- every form of a list is valid
+abbrev pub AllValid : List Instr → Type 0
+AllValid [] = Unit {0}
+AllValid (i ∷ is) = Valid i × AllValid is
+
 -- the answer to an instruction to be printed
 pub record PrintedAs (x : Fields) (r : Printed) : Type 0 where
   pub prints : Prints (instrOf x) r
@@ -55,3 +60,5 @@ pub record AssembledAs (t ops args : List ℕ) (r : Assembled) (ops′ args′ :
   pub assembles : Assembles t ops args r ops′ args′
   pub reads-printed : ReadsPrinted t
   pub one-row : OneRow
+  -- every word is the encoding of a valid form: none is 00 for want of one
+  pub valid : AllValid (programOf t)

@@ -2,3 +2,4 @@ pub mod Storing
 pub mod Counts
 pub mod Lines
 pub mod Bytes
+pub mod Validity

@@ -1,6 +1,7 @@
 use borrow.Author.Needs.{needs}
 use Rattle.reading.proofs.OneRow.{one-row}
 use Rattle.source.proofs.Printed.{reads-printed}
+use Rattle.source.proofs.AllValid.{program-valid}
 use Rattle.source.proofs.cesca_assemble.Statement.{statement}
 use Rattle.source.proofs.cesca_assemble.Tie as tie
 
@@ -11,4 +12,10 @@ cesca-assemble-spec =
     (λ c κs. search needs)
     (λ c. search needs)
     (λ c. search needs)
-    (λ c. record { assembles = c .before .before .before .before .assemble .ensures; reads-printed = reads-printed _; one-row = one-row }))
+    (λ c.
+    record {
+      assembles = c .before .before .before .before .assemble .ensures;
+      reads-printed = reads-printed _;
+      one-row = one-row;
+      valid = program-valid _;
+    }))
