@@ -70,7 +70,7 @@ fn address(text: &[u8], name: &[u8], addresses: &[u8], starts: &[usize], numbers
 }
 
 // The address @ of a line: a number, or that of the label with this name.
-fn target(
+fn operand_address(
     text: &[u8],
     name: &[u8],
     number: u8,
@@ -108,7 +108,7 @@ fn store_line(
             let from = p.from;
             let size = p.size;
             let name = slices::part(line, from, size);
-            let to = target(text, name, p.addr, addresses, starts, numbers);
+            let to = operand_address(text, name, p.addr, addresses, starts, numbers);
             store_row(k, p, to, at, opcodes, arguments);
             at + labels::row_size(k)
         }

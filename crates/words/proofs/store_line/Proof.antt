@@ -18,5 +18,5 @@ store-line-spec =
     (λ c. search needs)
     (λ c. search needs)
     (λ c. search needs)
-    (λ c. let a = c .before .before .before .before .before .before .before .before .before .before .before .before .before .before .before .before .before .before .before .before .before .before .args in line-stored (a .text .now) (a .line .now) (a .at) (a .opcodes .now) (a .arguments .now) (c .before .before .before .before .before .before .before .before .before .before .before .before .before .read-line .ensures) (c .before .before .before .before .before .before .before .before .before .before .before .m .given .1) (c .row-size .ensures) (c .before .before .before .before .before .before .before .before .target .ensures) (c .before .before .before .before .before .before .before .before .before .part .ensures) (c .before .before .before .before .before .store-row .ensures))
+    (λ c. let a = c .before .before .before .before .before .before .before .before .before .before .before .before .before .before .before .before .before .before .before .before .before .before .args in line-stored (a .text .now) (a .line .now) (a .at) (a .opcodes .now) (a .arguments .now) (c .before .before .before .before .before .before .before .before .before .before .before .before .before .read-line .ensures) (c .before .before .before .before .before .before .before .before .before .before .before .m .given .1) (c .row-size .ensures) (c .before .before .before .before .before .before .before .before .operand-address .ensures) (c .before .before .before .before .before .before .before .before .before .part .ensures) (c .before .before .before .before .before .store-row .ensures))
     (λ c. let a = c .before .before .before .before .before .before .before .before .before .before .before .args in misfit-stored (a .text .now) (a .line .now) (a .at) (a .opcodes .now) (a .arguments .now) (c .before .before .read-line .ensures) (c .enum-told .given .1)))
