@@ -6,7 +6,7 @@ use mathlib.Core.Bool.{cond, _||_}
 use mathlib.Core.List.{List, [], _∷_, _++_}
 use lib.Dec.{eqb, ltb}
 use Rattle.slices.specs.Checks.{Check, check, firstBroken, NoneBroken, FirstViolation}
-use Rattle.slices.specs.Sizes.{bankSize, badBank}
+use Rattle.slices.specs.Sizes.{badBank}
 use Rattle.isa.specs.declared.Instr.{Instr}
 use Rattle.labels.specs.Lines.{linesOf, wordCount}
 use Rattle.labels.specs.Labels.{lineChecks, labelChecks}

@@ -5,7 +5,7 @@ use numbers::Fields;
 use spelling::Places;
 ghost use mathlib.Core.Path.{_≡_};
 ghost use Prim.Native.Nat.{_+_, _≤_, _<_};
-ghost use Rattle.spelling.specs.Spellings.{numberIn, formOf};
+ghost use Rattle.spelling.specs.Spellings.{numberIn, tableForm};
 ghost use Rattle.expansion.specs.internal.Forms.{First, Second, Third};
 
 // The number or address that a row of 003's instruction table shows.
@@ -18,7 +18,7 @@ fn number_in(p: Places, to: u8) -> u8
 // The form of a row of 003's instruction table.
 fn table_form(k: usize, p: Places, to: u8) -> Instr
     requires { ⌜ k < 70 ⌝ }
-    ensures { λ r. ⌜ r ≡ formOf k p to ⌝ }
+    ensures { λ r. ⌜ r ≡ tableForm k p to ⌝ }
 {
     let number = number_in(p, to);
     if k < 16 {
@@ -67,10 +67,10 @@ pub fn first_form(k: usize, p: Places, to: u8) -> Instr
     requires { ⌜ k < 90 ⌝ }
     ensures { λ r. ⌜ First k p to r ⌝ }
 {
-    if k < 70 {
+    if k < spelling::FIRST_MACRO {
         return table_form(k, p, to);
     }
-    macro_form(k - 70, p, to)
+    macro_form(k - spelling::FIRST_MACRO, p, to)
 }
 
 // The second form of a macro that has one, which stands at an address.
@@ -79,7 +79,7 @@ pub fn second_form(k: usize, to: u8, at: usize) -> Instr
     ensures { λ r. ⌜ Second k to at r ⌝ }
 {
     let skip = ((at + 3) % 256) as u8;
-    let m = k - 81;
+    let m = k - spelling::FIRST_PAIR;
     match m {
         0 => Instr::Jc(to),
         1 => Instr::Jnc(to),

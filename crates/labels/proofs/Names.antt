@@ -11,22 +11,22 @@ use lib.ListN.{length, getD, take, drop, drop-of-length-le, List·getD-eq-defaul
 use lib.Seq.{drop-cons, getD-take, length-take-le}
 use borrow.Author.Tests.{eq-eqb, ne-eqb, eqb-true, eqb-false, lt-leb, ltb-true, ltb-false, leb-true, not-true, not-false}
 use Rattle.slices.proofs.Bools.{by-test, both}
-use Rattle.spelling.specs.Words.{runOf}
+use Rattle.spelling.specs.Words.{wordLength}
 use Rattle.labels.specs.Lines.{labelSize, labelOf, isLabelled}
 use Rattle.labels.specs.Labels.{same}
 
 abbrev pub labelTest : List ℕ → Bool
-labelTest l = leb 1 (runOf true l) && leb (runOf true l) 12 && eqb (getD l (runOf true l) 0) 58 && eqb (getD l (runOf true l + 1) 0) 32
+labelTest l = leb 1 (wordLength true l) && leb (wordLength true l) 12 && eqb (getD l (wordLength true l) 0) 58 && eqb (getD l (wordLength true l + 1) 0) 32
 
 -- what a label's size tells
-pub label-read : (l : List ℕ) → (labelSize l ≡ 0 → ⊥) → (labelSize l ≡ runOf true l) × (labelTest l ≡ true)
+pub label-read : (l : List ℕ) → (labelSize l ≡ 0 → ⊥) → (labelSize l ≡ wordLength true l) × (labelTest l ≡ true)
 unfolding labelSize
 label-read l f = by-test (labelTest l) (λ e. (rw e, e)) (λ e. absurd (f (rw e)))
 
 -- a label, the colon and the space stand inside the line
 pub label-fits : (l : List ℕ) → (labelSize l ≡ 0 → ⊥) → labelSize l + 2 ≤ length l
 label-fits l f =
-    let n = runOf true l in
+    let n = wordLength true l in
     let r = label-read l f in
     by-test (ltb (n + 1) (length l))
     (λ k. let q = ltb-true (n + 1) (length l) k in omega (arith, r .0))
@@ -37,7 +37,7 @@ label-fits l f =
 -- a colon stands behind a label
 pub label-colon : (l : List ℕ) → (labelSize l ≡ 0 → ⊥) → getD l (labelSize l) 0 ≡ 58
 label-colon l f =
-    let n = runOf true l in
+    let n = wordLength true l in
     let r = label-read l f in
     rw (r .0) (eqb-true _ _ (both (leb 1 n && leb n 12) _ (both (leb 1 n && leb n 12 && eqb (getD l n 0) 58) _ (r .1) .0) .1))
 
@@ -45,9 +45,9 @@ second-false : (a b c d : Bool) → b ≡ false → (((a && b) && c) && d) ≡ f
 second-false true b c d e = rw e
 second-false false b c d e = refl
 
-pub label-long : (l : List ℕ) → 12 < runOf true l → labelSize l ≡ 0
+pub label-long : (l : List ℕ) → 12 < wordLength true l → labelSize l ≡ 0
 unfolding labelSize
-label-long l h = rw (second-false (leb 1 (runOf true l)) (leb (runOf true l) 12) (eqb (getD l (runOf true l) 0) 58) (eqb (getD l (runOf true l + 1) 0) 32) (lt-leb (runOf true l) 12 h))
+label-long l h = rw (second-false (leb 1 (wordLength true l)) (leb (wordLength true l) 12) (eqb (getD l (wordLength true l) 0) 58) (eqb (getD l (wordLength true l + 1) 0) 32) (lt-leb (wordLength true l) 12 h))
 
 -- the same names are equal
 pub same-equal : (a b : List ℕ) → same a b ≡ true → a ≡ b

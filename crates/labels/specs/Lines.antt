@@ -8,7 +8,7 @@ use lib.Dec.{eqb, leb}
 use lib.ListN.{length, getD, take, drop}
 use Rattle.reading.specs.Reading.{matchedOf}
 use Rattle.spelling.specs.Spellings.{rowCount, formsOf}
-use Rattle.spelling.specs.Words.{runOf}
+use Rattle.spelling.specs.Words.{wordLength}
 use Rattle.reading.specs.declared.Matched.{Matched}
 use Rattle.reading.specs.declared.Matched.the-variants.{Fits, Misfit}
 
@@ -25,7 +25,7 @@ linesOf (c ∷ t) = cond (eqb c 10) ([] ∷ linesOf t) (onFirst c (linesOf t))
 -- how many letters a line's label has, 0 for none: 58 is the colon, 32 the space
 unfoldable pub labelSize : List ℕ → ℕ
 labelSize l =
-    cond (leb 1 (runOf true l) && leb (runOf true l) 12 && eqb (getD l (runOf true l) 0) 58 && eqb (getD l (runOf true l + 1) 0) 32) (runOf true l) 0
+    cond (leb 1 (wordLength true l) && leb (wordLength true l) 12 && eqb (getD l (wordLength true l) 0) 58 && eqb (getD l (wordLength true l + 1) 0) 32) (wordLength true l) 0
 
 abbrev pub labelOf : List ℕ → List ℕ
 labelOf l = take (labelSize l) l

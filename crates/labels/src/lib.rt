@@ -9,11 +9,11 @@ ghost use Rattle.labels.specs.Lines.{linesOf, labelSize, labelOf, lineOf
 ghost use Rattle.labels.specs.Labels.{same, givenAt, repeats, misses};
 ghost use Rattle.labels.specs.internal.Search.{cutOf, badLabel, more, slots, hashOf, startsAfter, numbersAfter, Index, Inspected, WordsOf, NewIndex, IsLine};
 
-// How many numbers there are by which labels are looked up.
+// How many hashes there are by which labels are looked up.
 pub const SLOTS: usize = 4096;
 
 // What a look at every line tells: the first that is no instruction or macro, 0 for none, and the words of all
-// lines, as far as 256 and more.
+// lines; counting stops above 256.
 pub struct Survey {
     pub bad: usize,
     pub words: usize,
@@ -54,10 +54,10 @@ pub fn row_size(k: usize) -> usize
     requires { ⌜ k < 90 ⌝ }
     ensures { λ r. ⌜ WordsOf k r ⌝ }
 {
-    if k < 81 {
+    if k < spelling::FIRST_PAIR {
         return 1;
     }
-    if k < 86 {
+    if k < spelling::FIRST_TRIPLE {
         return 2;
     }
     3
@@ -143,7 +143,7 @@ pub fn inspect(table: &[u8], text: &[u8], addresses: &mut [u8]) -> Survey
     Survey { bad: 0, words }
 }
 
-// The number by which a name is looked up.
+// The hash by which a name is looked up.
 fn hash(name: &[u8]) -> usize
     ensures { λ r. ⌜ (r ≡ hashOf (now (name .entry))) × (r < slots) ⌝ }
 {
@@ -209,8 +209,8 @@ fn enter(line: &[u8], at: usize, k: usize, starts: &mut [usize], numbers: &mut [
     numbers[h] = k;
 }
 
-// For each number by which names are looked up, the first line that gives a name of that number goes into
-// two lent buffers: its place and its line number.
+// For each hash the first line that gives a name of that hash goes into two lent buffers: its place and its
+// line number.
 pub fn index(text: &[u8], starts: &mut [usize], numbers: &mut [usize])
     requires { ⌜ NewIndex (now text) (now starts) (now numbers) ⌝ }
     ensures { λ _. ⌜ Index (now (text .entry)) (now (starts .exit)) (now (numbers .exit)) ⌝ }

@@ -16,7 +16,7 @@ use Rattle.numbers.specs.declared.Fields.{Fields}
 use Rattle.spelling.specs.declared.Operand.the-variants.{Register, Number}
 use Rattle.spelling.specs.declared.Places.{Places}
 use Rattle.spelling.specs.Spellings.{spellings, patternOf}
-use Rattle.spelling.specs.Words.{inWord, runOf, digitOf, numberOf, operandOf}
+use Rattle.spelling.specs.Words.{inWord, wordLength, digitOf, numeralOf, operandOf}
 use Rattle.reading.specs.Reading.{isPlace, emptyPlaces, scanned, tookOf, literalOf, byteOf, scanOf, readOf}
 use Rattle.spelling.proofs.Rows.{all, all-at}
 use Rattle.spelling.proofs.Tables.{same-below}
@@ -43,13 +43,13 @@ abbrev ended : List ℕ → Bool
 ended [] = true
 ended (c ∷ l) = not (inWord false c)
 
-run-ended : (r : List ℕ) → ended r ≡ true → runOf false r ≡ 0
-unfolding runOf
+run-ended : (r : List ℕ) → ended r ≡ true → wordLength false r ≡ 0
+unfolding wordLength
 run-ended [] e = refl
 run-ended (c ∷ r) e = rw (not-true (inWord false c) e)
 
-run-word : (w r : List ℕ) → all (inWord false) w ≡ true → ended r ≡ true → runOf false (w ++ r) ≡ length w
-unfolding runOf
+run-word : (w r : List ℕ) → all (inWord false) w ≡ true → ended r ≡ true → wordLength false (w ++ r) ≡ length w
+unfolding wordLength
 run-word [] r e h = run-ended r h
 run-word (c ∷ w) r e h = let u = both (inWord false c) _ e in rw (u .0) (ap suc (run-word w r (u .1) h))
 
@@ -74,7 +74,7 @@ unfolding decimal digits
 register-word r h = same-below (λ r. all (inWord false) (register r)) (λ r. true) 4 refl r h
 
 number-read : (n : ℕ) → n < 256 → operandOf (decimal n) ≡ Number n
-unfolding operandOf digitOf numberOf decimal digits
+unfolding operandOf digitOf numeralOf decimal digits
 number-read n h = same-below (λ n. operandOf (decimal n)) Number 256 refl n h
 
 number-word : (n : ℕ) → n < 256 → all (inWord false) (decimal n) ≡ true

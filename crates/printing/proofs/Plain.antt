@@ -17,7 +17,7 @@ use Rattle.numbers.specs.declared.Fields.{Fields}
 use Rattle.spelling.specs.Spellings.{spellings, patternOf}
 use Rattle.spelling.proofs.Rows.{all, all-at}
 use Rattle.spelling.proofs.Tables.{same-below}
-use Rattle.printing.specs.Print.{shownAt, filled, rowOf, textOf}
+use Rattle.printing.specs.Print.{shownAt, filled, spellingRow, textOf}
 use Rattle.printing.proofs.ValidFields.{row-told}
 
 -- neither a line feed (10) nor a colon (58)
@@ -58,7 +58,7 @@ filled-plain (c ∷ p) x e =
 
 pub text-plain : (i : Instr) → all plain (textOf i) ≡ true
 unfolding textOf patternOf spellings
-text-plain i = filled-plain (patternOf (rowOf (fieldsOf i))) (fieldsOf i) (all-at (all plain) [] spellings refl refl (rowOf (fieldsOf i)))
+text-plain i = filled-plain (patternOf (spellingRow (fieldsOf i))) (fieldsOf i) (all-at (all plain) [] spellings refl refl (spellingRow (fieldsOf i)))
 
 abbrev some : List ℕ → Bool
 some [] = false
@@ -70,4 +70,4 @@ some-long (c ∷ l) e = omega arith
 
 pub text-some : (i : Instr) → Valid i → 0 < length (textOf i)
 unfolding textOf patternOf spellings filled shownAt
-text-some i v = let x = fieldsOf i in some-long (textOf i) (same-below (λ k. some (filled (patternOf k) x)) (λ k. true) 70 refl (rowOf x) (row-told i v .within))
+text-some i v = let x = fieldsOf i in some-long (textOf i) (same-below (λ k. some (filled (patternOf k) x)) (λ k. true) 70 refl (spellingRow x) (row-told i v .within))

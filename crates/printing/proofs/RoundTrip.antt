@@ -17,31 +17,31 @@ use Rattle.numbers.specs.declared.Fields.{Fields}
 use Rattle.reading.specs.declared.Matched.the-variants.{Fits}
 use Rattle.spelling.specs.declared.Places.{Places}
 use Rattle.reading.specs.Reading.{emptyPlaces, fits, readOf, matchedOf}
-use Rattle.spelling.specs.Spellings.{spellings, patternOf, formAt, functionAt, formOf, formsOf}
+use Rattle.spelling.specs.Spellings.{spellings, patternOf, formAt, functionAt, tableForm, formsOf}
 use Rattle.reading.proofs.OneRow.{row-found}
 use Rattle.spelling.proofs.Tables.{same-below}
-use Rattle.printing.specs.Print.{filled, rowOf, textOf}
+use Rattle.printing.specs.Print.{filled, spellingRow, textOf}
 use Rattle.printing.specs.Shown.{shownFields, shownOf}
 use Rattle.printing.proofs.OwnRow.{placesBy, read-own}
 use Rattle.printing.proofs.ValidFields.{valid-fields, Told, row-told}
 
 -- what stands in the places of a form's text: the fields that are shown
 abbrev pub placesOf : Instr → Places
-placesOf i = placesBy (patternOf (rowOf (fieldsOf i))) (fieldsOf i) emptyPlaces
+placesOf i = placesBy (patternOf (spellingRow (fieldsOf i))) (fieldsOf i) emptyPlaces
 
-pub line-printed : (i : Instr) → Valid i → fieldsOf i .5 < 256 → matchedOf (textOf i) 0 0 90 ≡ Fits (rowOf (fieldsOf i)) (placesOf i)
+pub line-printed : (i : Instr) → Valid i → fieldsOf i .5 < 256 → matchedOf (textOf i) 0 0 90 ≡ Fits (spellingRow (fieldsOf i)) (placesOf i)
 unfolding textOf
 line-printed i v h =
     let x = fieldsOf i in
-    let t = filled (patternOf (rowOf x)) x in
-    let r = read-own x (valid-fields i v) h (rowOf x) in
-    let f : fits t (readOf t 0 (rowOf x)) ≡ true = rw r (eq-eqb (length t) (length t) refl) in
-    row-found t 0 (rowOf x) (omega (arith, row-told i v .within)) f ∙ rw r
+    let t = filled (patternOf (spellingRow x)) x in
+    let r = read-own x (valid-fields i v) h (spellingRow x) in
+    let f : fits t (readOf t 0 (spellingRow x)) ≡ true = rw r (eq-eqb (length t) (length t) refl) in
+    row-found t 0 (spellingRow x) (omega (arith, row-told i v .within)) f ∙ rw r
 
 -- no name stands for an address
 pub no-name : (i : Instr) → Valid i → placesOf i .size ≡ 0
 unfolding patternOf spellings
-no-name i v = same-below (λ k. placesBy (patternOf k) (fieldsOf i) emptyPlaces .size) (λ k. 0) 70 refl (rowOf (fieldsOf i)) (row-told i v .within)
+no-name i v = same-below (λ k. placesBy (patternOf k) (fieldsOf i) emptyPlaces .size) (λ k. 0) 70 refl (spellingRow (fieldsOf i)) (row-told i v .within)
 
 -- # stands in a spelling
 abbrev showsImm : List ℕ → Bool
@@ -74,8 +74,8 @@ either-zero false n = refl
 told-shown : (x : Fields) (k : ℕ) → Told x k → formRead x either k ≡ instrOf (shownFields x)
 told-shown x k t = rows-shown x either k (t .within) ∙ rw (either-zero (showsImm (patternOf k)) (x .5), ← t .form, ← t .function)
 
-pub forms-printed : (i : Instr) (at : ℕ) → Valid i → formsOf (rowOf (fieldsOf i)) (placesOf i) (placesOf i .addr) at ≡ shownOf i ∷ []
-unfolding formsOf formOf
+pub forms-printed : (i : Instr) (at : ℕ) → Valid i → formsOf (spellingRow (fieldsOf i)) (placesOf i) (placesOf i .addr) at ≡ shownOf i ∷ []
+unfolding formsOf tableForm
 forms-printed i at v =
     let t = row-told i v in
-    rw (lt-ltb (rowOf (fieldsOf i)) 70 (t .within)) (ap (λ (j : Instr). j ∷ []) (told-shown (fieldsOf i) (rowOf (fieldsOf i)) t))
+    rw (lt-ltb (spellingRow (fieldsOf i)) 70 (t .within)) (ap (λ (j : Instr). j ∷ []) (told-shown (fieldsOf i) (spellingRow (fieldsOf i)) t))

@@ -19,7 +19,7 @@ use Rattle.isa.specs.declared.Opcode.the-variants.{DDAA, DDXX, OOAA, OOXX}
 use Rattle.numbers.specs.Numbers.{fieldsOf}
 use Rattle.numbers.specs.declared.Fields.{Fields}
 use Rattle.spelling.specs.Spellings.{rowWith, formAt, functionAt}
-use Rattle.printing.specs.Print.{rowOf as spelledIn}
+use Rattle.printing.specs.Print.{spellingRow}
 use Rattle.printing.specs.Shown.{isFunction}
 use Rattle.printing.proofs.AllForms.{by-forms}
 
@@ -96,10 +96,10 @@ pub record Told (x : Fields) (k : ℕ) : Type 0 where
 all-told : (form f : ℕ) → form < 40 → f < 16 → told form f ≡ true
 all-told form f h l = below.at (told form) 16 (below.at (λ m. below.all-below (told m) 16) 40 refl form h) f l
 
-pub row-told : (i : Instr) → Valid i → Told (fieldsOf i) (spelledIn (fieldsOf i))
+pub row-told : (i : Instr) → Valid i → Told (fieldsOf i) (spellingRow (fieldsOf i))
 row-told i v =
     let x = fieldsOf i in
-    let k = spelledIn x in
+    let k = spellingRow x in
     let n = by-forms (λ i. numbered (fieldsOf i .0) (fieldsOf i .3)) (λ i. true) (λ d a f b n. refl) i in
     let t = all-told (x .0) (x .3) (ltb-true _ _ (both (ltb (x .0) 40) _ n .0)) (valid-fields i v .f) in
     let u = both (ltb k 70 && eqb (formAt k) (x .0)) (eqb (functionAt k) (x .3)) (rw n at t) in

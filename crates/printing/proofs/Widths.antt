@@ -16,7 +16,7 @@ use Rattle.numbers.specs.Numbers.{fieldsOf}
 use Rattle.numbers.specs.declared.Fields.{Fields}
 use Rattle.spelling.specs.Spellings.{spellings, patternOf}
 use Rattle.spelling.proofs.Rows.{all-at}
-use Rattle.printing.specs.Print.{shownAt, filled, rowOf, textOf, textWidth}
+use Rattle.printing.specs.Print.{shownAt, filled, spellingRow, textOf, textWidth}
 use Rattle.printing.proofs.Bytes.{Bytes}
 
 -- the most characters that are printed for a byte of a spelling
@@ -54,4 +54,4 @@ module _ (x : Fields) (h : Bytes x) where
 
 pub text-short : (i : Instr) → Bytes (fieldsOf i) → length (textOf i) ≤ textWidth
 unfolding textOf
-text-short i h = filled-narrow (fieldsOf i) h (rowOf (fieldsOf i))
+text-short i h = filled-narrow (fieldsOf i) h (spellingRow (fieldsOf i))

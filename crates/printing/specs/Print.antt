@@ -30,14 +30,14 @@ filled [] x = []
 filled (c ∷ p) x = shownAt x c ++ filled p x
 
 -- the row of a form's spelling
-abbrev pub rowOf : Fields → ℕ
-rowOf x = rowWith (x .0) (x .3)
+abbrev pub spellingRow : Fields → ℕ
+spellingRow x = rowWith (x .0) (x .3)
 
 -- the text of a form: its spelling, filled with its fields
 unfoldable pub textOf : Instr → List ℕ
-textOf i = filled (patternOf (rowOf (fieldsOf i))) (fieldsOf i)
+textOf i = filled (patternOf (spellingRow (fieldsOf i))) (fieldsOf i)
 
--- the most characters that a text has
+-- the room for a text: 02 [3], "the instruction's text left-aligned in 23"
 abbrev pub textWidth : ℕ
 textWidth = 23
 

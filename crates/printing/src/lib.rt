@@ -7,7 +7,7 @@ ghost use Rattle.spelling.specs.internal.Rows.{tableBytes};
 ghost use Rattle.spelling.specs.Spellings.{patternOf, rowWith};
 ghost use Rattle.printing.specs.Print.{register, shownAt, filled, textOf, Prints};
 
-// The most characters that a text has.
+// The room for a text.
 pub const TEXT_WIDTH: usize = 23;
 
 // The answer to an instruction to be printed: 0, the text's length, and the text with spaces behind it; or the

@@ -14,7 +14,7 @@ use Rattle.slices.proofs.Bools.{by-test, both, neither}
 use Rattle.spelling.specs.declared.Operand.{Operand}
 use Rattle.spelling.specs.declared.Operand.the-variants.{Register, Number, Name, Other}
 use Rattle.reading.specs.declared.Scan.{Scan}
-use Rattle.spelling.specs.Words.{figure, inWord, runOf, digitOf, numberOf, operandOf, wordOf}
+use Rattle.spelling.specs.Words.{figure, inWord, wordLength, digitOf, numeralOf, operandOf, wordOf}
 use Rattle.reading.specs.Reading.{isPlace, tookOf, literalOf, byteOf, scanOf, fits}
 use Rattle.reading.proofs.Seeks.{failed-misfits}
 
@@ -46,15 +46,15 @@ no-figure c e =
     by-test (leb c 102) (λ h. rw (a, b, d, f, g, h) (lt-ltb 9 (c - 87) (omega (arith, ltb-false c 97 g)))) (λ h. rw (a, b, d, f, g, h)))))))
 
 -- no number begins with another byte than a figure
-no-number : (m c b1 b2 b3 : ℕ) → figure c ≡ false → numberOf m c b1 b2 b3 ≡ 256
-unfolding numberOf
+no-number : (m c b1 b2 b3 : ℕ) → figure c ≡ false → numeralOf m c b1 b2 b3 ≡ 256
+unfolding numeralOf
 no-number m c b1 b2 b3 e =
     let z : eqb c 48 ≡ false = by-test (eqb c 48) (λ k. absurd (false≢true (sym e ∙ rw (eqb-true c 48 k)))) (λ k. k) in
     rw (z, no-figure c e)
     (by-test (eqb m 1) (λ a. rw a) (λ a. by-test (eqb m 2) (λ b. rw (a, b)) (λ b. by-test (eqb m 3) (λ f. rw (a, b, f))
     (λ f. by-test (eqb m 4) (λ g. rw (a, b, f, g)) (λ g. rw (a, b, f, g))))))
 
-number-begins : (m c b1 b2 b3 : ℕ) → ltb (numberOf m c b1 b2 b3) 256 ≡ true → figure c ≡ true
+number-begins : (m c b1 b2 b3 : ℕ) → ltb (numeralOf m c b1 b2 b3) 256 ≡ true → figure c ≡ true
 number-begins m c b1 b2 b3 h = by-test (figure c) (λ e. e) (λ e. absurd (false≢true (rw (no-number m c b1 b2 b3 e) at h)))
 
 number-allowed : (c x : ℕ) → figure x ≡ true → takes (Number 0) c ≡ true → allows c x ≡ true
@@ -66,9 +66,9 @@ unfolding operandOf
 word-begins w c =
     by-test (eqb (length w) 2 && eqb (getD w 0 0) 82 && ltb (digitOf (getD w 1 0)) 4)
     (λ t. rw t (λ e. rw e (both (eqb (length w) 2) (eqb (getD w 0 0) 82) (both _ _ t .0) .1)))
-    (λ t. rw t (by-test (ltb (numberOf (length w) (getD w 0 0) (getD w 1 0) (getD w 2 0) (getD w 3 0)) 256)
+    (λ t. rw t (by-test (ltb (numeralOf (length w) (getD w 0 0) (getD w 1 0) (getD w 2 0) (getD w 3 0)) 256)
     (λ u. rw u (number-allowed c (getD w 0 0) (number-begins (length w) (getD w 0 0) _ _ _ u)))
-    (λ u. rw u (by-test (eqb (length w) (runOf true w) && leb 1 (length w) && leb (length w) 12)
+    (λ u. rw u (by-test (eqb (length w) (wordLength true w) && leb 1 (length w) && leb (length w) 12)
     (λ v. rw v (λ e. rw (eqb-true c 64 e)))
     (λ v. rw v (λ e. absurd (false≢true e)))))))
 
@@ -82,14 +82,14 @@ pub record Read (c : ℕ) (t : List ℕ) : Type 0 where
 
 -- how many bytes are then read: a word, or one
 abbrev pub size : ℕ → List ℕ → ℕ
-size c t = cond (isPlace c) (runOf false t) 1
+size c t = cond (isPlace c) (wordLength false t) 1
 
 word-read : (c : ℕ) (t : List ℕ) → takes (operandOf (wordOf t)) c ≡ true → Read c t
-unfolding operandOf numberOf digitOf runOf
+unfolding operandOf numeralOf digitOf wordLength
 word-read c [] e = absurd (false≢true e)
 word-read c (x ∷ t) e =
     by-test (inWord false x)
-    (λ i. record { some = omega arith; front = word-begins (x ∷ take (runOf false t) t) c (rw i at e); word = λ p. e })
+    (λ i. record { some = omega arith; front = word-begins (x ∷ take (wordLength false t) t) c (rw i at e); word = λ p. e })
     (λ i. absurd (false≢true (rw i at e)))
 
 byte-read : (c : ℕ) (t : List ℕ) → isPlace c ≡ false → 0 < length t → getD t 0 0 ≡ c → Read c t
@@ -125,7 +125,7 @@ module _ (l : List ℕ) where
 
   -- a scan that goes on has not failed before
   byte-live : (c : ℕ) (s : Scan) → byteOf l c s .ok ≡ true
-      → byteOf l c s ≡ cond (isPlace c) (tookOf (operandOf (wordOf (drop (s .at) l))) c (s .at + runOf false (drop (s .at) l)) s) (literalOf l c s)
+      → byteOf l c s ≡ cond (isPlace c) (tookOf (operandOf (wordOf (drop (s .at) l))) c (s .at + wordLength false (drop (s .at) l)) s) (literalOf l c s)
   unfolding byteOf
   byte-live c s e = live (s .ok) _ s refl e
 
@@ -135,7 +135,7 @@ module _ (l : List ℕ) where
       let b = byte-live c s e in
       by-test (isPlace c)
       (λ h.
-      let t = took-ok (operandOf (wordOf (drop (s .at) l))) c (s .at + runOf false (drop (s .at) l)) s (rw (b, h) at e) in
+      let t = took-ok (operandOf (wordOf (drop (s .at) l))) c (s .at + wordLength false (drop (s .at) l)) s (rw (b, h) at e) in
       (word-read c (drop (s .at) l) (t .0), rw (b, h) (t .1)))
       (λ h. let t = literal-ok c s h (rw (b, h) at e) in (t .0, rw (b, h) (t .1)))
 

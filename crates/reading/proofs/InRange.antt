@@ -14,7 +14,7 @@ use Rattle.spelling.specs.declared.Operand.{Operand}
 use Rattle.spelling.specs.declared.Operand.the-variants.{Register, Number, Name, Other}
 use Rattle.spelling.specs.declared.Places.{Places}
 use Rattle.reading.specs.declared.Scan.{Scan}
-use Rattle.spelling.specs.Words.{runOf, digitOf, numberOf, operandOf, wordOf}
+use Rattle.spelling.specs.Words.{wordLength, digitOf, numeralOf, operandOf, wordOf}
 use Rattle.spelling.specs.Spellings.{patternOf}
 use Rattle.reading.specs.Reading.{isPlace, tookOf, literalOf, byteOf, scanOf, readOf, fits, matchedOf}
 
@@ -45,10 +45,10 @@ operand-low : (w : List ℕ) → LowOperand (operandOf w)
 unfolding operandOf
 operand-low w =
     let r = digitOf (getD w 1 0) in
-    let n = numberOf (length w) (getD w 0 0) (getD w 1 0) (getD w 2 0) (getD w 3 0) in
+    let n = numeralOf (length w) (getD w 0 0) (getD w 1 0) (getD w 2 0) (getD w 3 0) in
     by-test (eqb (length w) 2 && eqb (getD w 0 0) 82 && ltb r 4)
     (λ e. rw e (ltb-true r 4 (both (eqb (length w) 2 && eqb (getD w 0 0) 82) (ltb r 4) e .1)))
-    (λ e. rw e (no-register (ltb n 256) (eqb (length w) (runOf true w) && leb 1 (length w) && leb (length w) 12) n))
+    (λ e. rw e (no-register (ltb n 256) (eqb (length w) (wordLength true w) && leb 1 (length w) && leb (length w) 12) n))
 
 cond-in-range : (t : Bool) (x y : Scan) → InRange (x .places) → InRange (y .places) → InRange (cond t x y .places)
 cond-in-range true x y h k = h

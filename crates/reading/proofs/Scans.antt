@@ -13,19 +13,19 @@ use borrow.Author.Tests.{ltb-true}
 use Rattle.spelling.specs.declared.Operand.{Operand}
 use Rattle.spelling.specs.declared.Operand.the-variants.{Register, Number, Name, Other}
 use Rattle.reading.specs.declared.Scan.{Scan}
-use Rattle.spelling.specs.Words.{inWord, runOf, operandOf, wordOf}
+use Rattle.spelling.specs.Words.{inWord, wordLength, operandOf, wordOf}
 use Rattle.spelling.specs.Spellings.{patternOf}
 use Rattle.reading.specs.Reading.{isPlace, tookOf, literalOf, byteOf, scanOf}
 use Rattle.slices.proofs.Bools.{by-test, both}
 use Rattle.spelling.proofs.Rows.{short, no-dots, dot-ends, not-dot}
 
-run-short : (only : Bool) (l : List ℕ) → runOf only l ≤ length l
-unfolding runOf
+run-short : (only : Bool) (l : List ℕ) → wordLength only l ≤ length l
+unfolding wordLength
 run-short only [] = omega arith
 run-short only (c ∷ l) =
-    by-test (inWord only c) (λ e. let h : runOf only l ≤ length l = run-short only l in rw e (omega arith)) (λ e. rw e (omega arith))
+    by-test (inWord only c) (λ e. let h : wordLength only l ≤ length l = run-short only l in rw e (omega arith)) (λ e. rw e (omega arith))
 
-pub run-fits : (only : Bool) (l : List ℕ) (i : ℕ) → i ≤ length l → i + runOf only (drop i l) ≤ length l
+pub run-fits : (only : Bool) (l : List ℕ) (i : ℕ) → i ≤ length l → i + wordLength only (drop i l) ≤ length l
 run-fits only l i h = omega (arith, run-short only (drop i l), length-drop i l)
 
 cond-at : (t : Bool) (a b : Scan) (m : ℕ) → a .at ≤ m → b .at ≤ m → cond t a b .at ≤ m

@@ -1,9 +1,9 @@
 -- A line read by a spelling, and the row of the table that a line fits.
 -- Assumes nothing.
-use Prim.Native.Nat.{ℕ, zero, suc, _+_, _*_, _-_}
-use mathlib.Core.Bool.{Bool, true, false, cond, not, _&&_, _||_}
+use Prim.Native.Nat.{ℕ, zero, suc, _+_, _-_}
+use mathlib.Core.Bool.{Bool, true, false, cond, _&&_, _||_}
 use mathlib.Core.List.{List, [], _∷_}
-use lib.Dec.{eqb, leb, ltb}
+use lib.Dec.{eqb, ltb}
 use lib.ListN.{length, getD, drop}
 use Rattle.reading.specs.declared.Matched.{Matched}
 use Rattle.reading.specs.declared.Matched.the-variants.{Fits, Misfit}
@@ -12,7 +12,7 @@ use Rattle.spelling.specs.declared.Operand.the-variants.{Register, Number, Name
 use Rattle.spelling.specs.declared.Places.{Places}
 use Rattle.reading.specs.declared.Scan.{Scan}
 use Rattle.spelling.specs.Spellings.{patternOf}
-use Rattle.spelling.specs.Words.{runOf, operandOf, wordOf}
+use Rattle.spelling.specs.Words.{wordLength, operandOf, wordOf}
 
 -- X, Y, Z, # and @: what stands for a register, a number or an address in a spelling
 abbrev pub isPlace : ℕ → Bool
@@ -63,7 +63,7 @@ literalOf l c s = cond (ltb (s .at) (length l) && eqb (getD l (s .at) 0) c) (sca
 unfoldable pub byteOf : List ℕ → ℕ → Scan → Scan
 byteOf l c s =
     cond (s .ok)
-    (cond (isPlace c) (tookOf (operandOf (wordOf (drop (s .at) l))) c (s .at + runOf false (drop (s .at) l)) s)
+    (cond (isPlace c) (tookOf (operandOf (wordOf (drop (s .at) l))) c (s .at + wordLength false (drop (s .at) l)) s)
     (literalOf l c s))
     s
 

@@ -19,12 +19,12 @@ use Rattle.isa.specs.declared.Instr.the-variants.{Nop}
 use Rattle.isa.specs.Table.{rowOf as tableRow, argumentIn}
 use Rattle.numbers.specs.Numbers.{fieldsOf, instrOf}
 use Rattle.numbers.specs.declared.Fields.{Fields}
-use Rattle.spelling.specs.Words.{runOf}
+use Rattle.spelling.specs.Words.{wordLength}
 use Rattle.spelling.specs.Spellings.{formsOf}
 use Rattle.reading.specs.declared.Matched.{Matched}
 use Rattle.reading.specs.declared.Matched.the-variants.{Fits}
 use Rattle.spelling.proofs.Rows.{all, all-at}
-use Rattle.printing.specs.Print.{rowOf, textOf, textWidth, columns, printedOf, Prints}
+use Rattle.printing.specs.Print.{spellingRow, textOf, textWidth, columns, printedOf, Prints}
 use Rattle.printing.specs.declared.Printed.{Printed}
 use Rattle.printing.proofs.AllForms as every
 use Rattle.printing.specs.Shown.{shownOf}
@@ -58,15 +58,15 @@ plain-byte c e = not-true (eqb c 58) (both (not (eqb c 10)) (not (eqb c 58)) e .
 unlabelled : (l : List ℕ) → all plain l ≡ true → labelSize l ≡ 0
 unfolding labelSize
 unlabelled l e =
-    rw (third-false (leb 1 (runOf true l)) (leb (runOf true l) 12) (eqb (getD l (runOf true l) 0) 58) (eqb (getD l (runOf true l + 1) 0) 32)
-    (plain-byte (getD l (runOf true l) 0) (all-at plain 0 l refl e (runOf true l))))
+    rw (third-false (leb 1 (wordLength true l)) (leb (wordLength true l) 12) (eqb (getD l (wordLength true l) 0) 58) (eqb (getD l (wordLength true l + 1) 0) 32)
+    (plain-byte (getD l (wordLength true l) 0) (all-at plain 0 l refl e (wordLength true l))))
 
 -- the line of a printed form
 module _ (i : Instr) (h : Printable i) where
   no-label : labelSize (textOf i) ≡ 0
   no-label = unlabelled (textOf i) (text-plain i)
 
-  line-is : lineOf (textOf i) ≡ Fits (rowOf (fieldsOf i)) (placesOf i)
+  line-is : lineOf (textOf i) ≡ Fits (spellingRow (fieldsOf i)) (placesOf i)
   unfolding lineOf
   line-is = rw no-label (line-printed i (h .0) (h .1))
 
@@ -83,13 +83,13 @@ module _ (i : Instr) (h : Printable i) where
   pub forms-are : (all : List (List ℕ)) (at : ℕ) → formsIn (lineOf (textOf i)) all (textOf i) at ≡ shownOf i ∷ []
   forms-are all at =
       ap (λ (m : Matched). formsIn m all (textOf i) at) line-is
-      ∙ (ap (λ (to : ℕ). formsOf (rowOf (fieldsOf i)) (placesOf i) to at) (target-is all) ∙ forms-printed i at (h .0))
+      ∙ (ap (λ (to : ℕ). formsOf (spellingRow (fieldsOf i)) (placesOf i) to at) (target-is all) ∙ forms-printed i at (h .0))
 
   pub size-one : sizeOf (textOf i) ≡ 1
   unfolding sizeOf
   size-one =
       ap sizeIn line-is
-      ∙ (row-length (rowOf (fieldsOf i)) (omega (arith, row-told i (h .0) .within)) (placesOf i) (placesOf i) 0 (placesOf i .addr) 0 0
+      ∙ (row-length (spellingRow (fieldsOf i)) (omega (arith, row-told i (h .0) .within)) (placesOf i) (placesOf i) 0 (placesOf i .addr) 0 0
       ∙ ap length (forms-printed i 0 (h .0)))
 
   pub not-faulty : (t : List ℕ) (k : ℕ) → isFaulty t (textOf i) k ≡ false

@@ -16,8 +16,8 @@ use Rattle.spelling.specs.Spellings.{rowCount}
 use Rattle.printing.specs.Print.{textOf, Prints}
 use Rattle.printing.specs.Shown.{shownOf}
 use Rattle.printing.specs.declared.Printed.{Printed}
-use Rattle.labels.specs.Lines.{linesOf}
-use Rattle.words.specs.Program.{programOf, opcodeOf, argumentOf, bankOf}
+use Rattle.labels.specs.Lines.{linesOf, wordCount}
+use Rattle.words.specs.Program.{formsFrom, programOf, opcodeOf, argumentOf, bankOf}
 use Rattle.assembling.specs.Assemble.{faultOf, answerOf, bankAfter, Assembles}
 use Rattle.assembling.specs.declared.Assembled.{Assembled}
 
@@ -60,5 +60,9 @@ pub record AssembledAs (t ops args : List ℕ) (r : Assembled) (ops′ args′ :
   pub assembles : Assembles t ops args r ops′ args′
   pub reads-printed : ReadsPrinted t
   pub one-row : OneRow
+  -- the forms of the lines before a line are as many as the words counted, so a label's address is that of its line's first form; and all words
+  -- counted are stored
+  pub counted : (n : ℕ) → length (formsFrom (linesOf t) (take n (linesOf t)) 0) ≡ wordCount (take n (linesOf t))
+  pub all-counted : length (programOf t) ≡ wordCount (linesOf t)
   -- every word is the encoding of a valid form: none is 00 for want of one
   pub valid : AllValid (programOf t)

@@ -1,8 +1,9 @@
 -- The spellings of 003: its forty rows, then its macros, in one table by which forms are printed and lines are read.
 -- 02 [1]: "One instruction stands on a line, spelled as in 003 with small mnemonics"; "003's macros are included".
+-- "A space follows the mnemonic, a comma and a space part the operands."
 -- In a spelling X, Y and Z stand for the registers Rd, Ra and Rb, # for Imm8 and @ for Addr8; every other character stands for itself.
 -- Assumes nothing.
-use Prim.Native.Nat.{ℕ, suc, _+_, _-_, _%_}
+use Prim.Native.Nat.{ℕ, _+_, _-_, _%_}
 use Prim.Native.String.{String}
 use mathlib.Core.Bool.{cond}
 use mathlib.Core.List.{List, [], _∷_, _++_}
@@ -37,8 +38,8 @@ operations =
     ∷ []
 
 -- each function with a destination. 003: "The fake register NONE can be used as the destination register for any of those mnemonics"
-abbrev pub with-destination : String → List (List ℕ)
-with-destination to = mapped (λ (o : String × String). ascii (o .0) ++ (ascii to ++ ascii (o .1))) operations
+abbrev pub withDestination : String → List (List ℕ)
+withDestination to = mapped (λ (o : String × String). ascii (o .0) ++ (ascii to ++ ascii (o .1))) operations
 
 -- 003, 'INSTRUCTION TABLE', from its fourth row on
 abbrev pub others : List String
@@ -94,7 +95,8 @@ pub record Macro : Type 0 where
 abbrev pub macro : String → (Places → ℕ → ℕ → List Instr) → Macro
 macro t f = record { text = t; forms = f }
 
--- 003, 'Macros', each below 003's arrow: those of one word, then those of two, then those of three. 02 [1]: "-1 being 255"
+-- 003, 'Macros', each below 003's arrow: those of one word, then those of two, then those of three. 02 [1]: "-1 being 255; neither is
+-- typed": no spelling has them
 abbrev pub macros : List Macro
 macros =
     -- cmp Ra, Rb → sub NONE, Ra, Rb
@@ -150,8 +152,8 @@ firstMacro = 70
 -- (33 to 69), then the macros (70 to 89)
 unfoldable pub spellings : List (List ℕ)
 spellings =
-    with-destination " X, "
-    ++ (ascii "add X, Y, #" ∷ with-destination " NONE, ")
+    withDestination " X, "
+    ++ (ascii "add X, Y, #" ∷ withDestination " NONE, ")
     ++ mapped ascii others
     ++ mapped (λ (m : Macro). ascii (m .text)) macros
 
@@ -170,15 +172,16 @@ formAt k = cond (ltb k 16) 0 (cond (eqb k 16) 1 (cond (ltb k 33) 2 (k - 30)))
 abbrev pub functionAt : ℕ → ℕ
 functionAt k = cond (ltb k 16) k (cond (eqb k 16) 0 (cond (ltb k 33) (k - 17) 0))
 
--- the number that a row of 003's table shows, # or @; the other is not there, and 0
+-- the number that a row of 003's table shows, # or @. No row shows both, and what it doesn't show is 0: a line is read into places that hold 0,
+-- and the address of one that shows no @ is the 0 there
 abbrev pub numberIn : Places → ℕ → ℕ
 numberIn p to = cond (eqb (p .imm) 0) to (p .imm)
 
 -- the form of a row of 003's table; a register that the row doesn't show is not there, and R0
-unfoldable pub formOf : ℕ → Places → ℕ → Instr
-formOf k p to = instrOf ((formAt k, p .d, p .a, functionAt k, p .b, numberIn p to))
+unfoldable pub tableForm : ℕ → Places → ℕ → Instr
+tableForm k p to = instrOf ((formAt k, p .d, p .a, functionAt k, p .b, numberIn p to))
 
 -- the forms of a row, with the address that stands for @, for a line at an address
 unfoldable pub formsOf : ℕ → Places → (to at : ℕ) → List Instr
 formsOf k p to at =
-    cond (ltb k firstMacro) (formOf k p to ∷ []) (getD (mapped (λ (m : Macro). m .forms p to at) macros) (k - firstMacro) [])
+    cond (ltb k firstMacro) (tableForm k p to ∷ []) (getD (mapped (λ (m : Macro). m .forms p to at) macros) (k - firstMacro) [])

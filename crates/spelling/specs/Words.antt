@@ -1,6 +1,6 @@
 -- What a word of a line can be: a register, a number or a label's name.
 -- Assumes nothing.
-use Prim.Native.Nat.{ℕ, zero, suc, _+_, _*_, _-_}
+use Prim.Native.Nat.{ℕ, suc, _+_, _*_, _-_}
 use mathlib.Core.Bool.{Bool, true, false, cond, not, _&&_, _||_}
 use mathlib.Core.List.{List, [], _∷_}
 use lib.Dec.{eqb, leb, ltb}
@@ -21,13 +21,13 @@ abbrev pub inWord : Bool → ℕ → Bool
 inWord only c = letter c || (not only && figure c)
 
 -- how many bytes the word at the front of l has
-unfoldable pub runOf : Bool → List ℕ → ℕ
-runOf only [] = 0
-runOf only (c ∷ l) = cond (inWord only c) (suc (runOf only l)) 0
+unfoldable pub wordLength : Bool → List ℕ → ℕ
+wordLength only [] = 0
+wordLength only (c ∷ l) = cond (inWord only c) (suc (wordLength only l)) 0
 
 -- the word at the front of l: all letters and figures up to another byte
 abbrev pub wordOf : List ℕ → List ℕ
-wordOf l = take (runOf false l) l
+wordOf l = take (wordLength false l) l
 
 -- the value of a hexadecimal digit "of either case", 16 for any other byte
 unfoldable pub digitOf : ℕ → ℕ
@@ -42,8 +42,8 @@ decimalOf h t u = cond (ltb 9 h || ltb 9 t || ltb 9 u || ltb 255 (100 * h + 10 *
 
 -- 02 [1]: "Numbers are decimal, 0 to 255 without leading zeros, or 0x and two hexadecimal digits of either case".
 -- The number that a word of n bytes b0, b1, .. is, 256 where it is none: 48 is "0" and 120 "x"
-unfoldable pub numberOf : ℕ → ℕ → ℕ → ℕ → ℕ → ℕ
-numberOf n b0 b1 b2 b3 =
+unfoldable pub numeralOf : ℕ → ℕ → ℕ → ℕ → ℕ → ℕ
+numeralOf n b0 b1 b2 b3 =
     cond (eqb n 1) (decimalOf 0 0 (digitOf b0))
     (cond (eqb n 2 && not (eqb b0 48)) (decimalOf 0 (digitOf b0) (digitOf b1))
     (cond (eqb n 3 && not (eqb b0 48)) (decimalOf (digitOf b0) (digitOf b1) (digitOf b2))
@@ -53,6 +53,6 @@ numberOf n b0 b1 b2 b3 =
 unfoldable pub operandOf : List ℕ → Operand
 operandOf w =
     cond (eqb (length w) 2 && eqb (getD w 0 0) 82 && ltb (digitOf (getD w 1 0)) 4) (Register (digitOf (getD w 1 0)))
-    (cond (ltb (numberOf (length w) (getD w 0 0) (getD w 1 0) (getD w 2 0) (getD w 3 0)) 256)
-    (Number (numberOf (length w) (getD w 0 0) (getD w 1 0) (getD w 2 0) (getD w 3 0)))
-    (cond (eqb (length w) (runOf true w) && leb 1 (length w) && leb (length w) 12) Name Other))
+    (cond (ltb (numeralOf (length w) (getD w 0 0) (getD w 1 0) (getD w 2 0) (getD w 3 0)) 256)
+    (Number (numeralOf (length w) (getD w 0 0) (getD w 1 0) (getD w 2 0) (getD w 3 0)))
+    (cond (eqb (length w) (wordLength true w) && leb 1 (length w) && leb (length w) 12) Name Other))

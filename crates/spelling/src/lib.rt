@@ -4,7 +4,7 @@ ghost use mathlib.Core.Bool.{Bool};
 ghost use lib.ListN.{length, getD, drop};
 ghost use Prim.Native.Nat.{_+_, _≤_};
 ghost use Rattle.spelling.specs.Spellings.{patternOf};
-ghost use Rattle.spelling.specs.Words.{inWord, runOf, digitOf, decimalOf, numberOf, operandOf};
+ghost use Rattle.spelling.specs.Words.{inWord, wordLength, digitOf, decimalOf, numeralOf, operandOf};
 ghost use Rattle.spelling.specs.internal.Rows.{tableBytes};
 
 // What a word of a line is.
@@ -30,10 +30,17 @@ pub struct Places {
 // The rows of the table.
 pub const ROW_COUNT: usize = 90;
 
+// The first row of a macro, of one that stands for two words, and of one that stands for three.
+pub const FIRST_MACRO: usize = 70;
+
+pub const FIRST_PAIR: usize = 81;
+
+pub const FIRST_TRIPLE: usize = 86;
+
 // The longest spelling.
 pub const ROW_WIDTH: usize = 16;
 
-// The spellings in 003's order, with dots up to 16. X, Y and Z stand for Rd, Ra and Rb, # for Imm8 and @ for
+// The spellings: 003's rows in its order, then its macros by their number of words; with dots up to 16. X, Y and Z stand for Rd, Ra and Rb, # for Imm8 and @ for
 // Addr8.
 const ROWS: [u8; 1440] = *b"\
     mov X, Z........\
@@ -158,7 +165,7 @@ fn in_word(only: bool, c: u8) -> bool
 // How many bytes the word at a place of a line has.
 pub fn word_size(line: &[u8], at: usize, only: bool) -> usize
     requires { ⌜ at ≤ length (now line) ⌝ }
-    ensures { λ r. ⌜ (r ≡ runOf only (drop at (now (line .entry)))) × (at + r ≤ length (now (line .entry))) ⌝ }
+    ensures { λ r. ⌜ (r ≡ wordLength only (drop at (now (line .entry)))) × (at + r ≤ length (now (line .entry))) ⌝ }
 {
     let n = line.len();
     let mut i = at;
@@ -210,7 +217,7 @@ fn decimal(h: u8, t: u8, u: u8) -> u16
 
 // The number that a word of n bytes is, 256 where it is none.
 fn number(n: usize, b0: u8, b1: u8, b2: u8, b3: u8) -> u16
-    ensures { λ r. ⌜ r ≡ numberOf n b0 b1 b2 b3 ⌝ }
+    ensures { λ r. ⌜ r ≡ numeralOf n b0 b1 b2 b3 ⌝ }
 {
     let p = digit(b0);
     let q = digit(b1);

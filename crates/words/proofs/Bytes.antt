@@ -17,12 +17,12 @@ use Rattle.spelling.specs.declared.Places.{Places}
 use Rattle.labels.specs.Lines.{linesOf, lineOf, sizeOf}
 use Rattle.labels.specs.internal.Search.{WordsOf}
 use Rattle.labels.proofs.Sizes.{size-fits, size-misfits}
-use Rattle.words.specs.Program.{opcodeIn, argumentIn, opcodeOf, argumentOf, targetBy, targetOf, formsIn}
+use Rattle.words.specs.Program.{opcodeFrom, argumentFrom, opcodeOf, argumentOf, targetBy, targetOf, formsIn}
 use Rattle.words.specs.declared.Word.{Word}
 use Rattle.words.specs.internal.Storing.{storedIn, LineStored}
 
 abbrev wordIn : Encoded → Word
-wordIn e = (opcodeIn e, argumentIn e)
+wordIn e = (opcodeFrom e, argumentFrom e)
 
 pub word-told : (i : Instr) {e : Encoded} {op arg : ℕ} → e ≡ encodeOf i → e ≡ Bytes op arg → _≡_ {A = Word} (op, arg) (opcodeOf i, argumentOf i)
 word-told i t q = sym (ap wordIn (sym t ∙ q))

@@ -16,7 +16,7 @@ use Rattle.isa.specs.Table.{rowOf, argumentIn}
 use Rattle.isa.specs.declared.Instr.{Instr}
 use Rattle.isa.specs.declared.Instr.the-variants.{Nop}
 use Rattle.numbers.specs.Numbers.{instrOf}
-use Rattle.spelling.specs.Spellings.{Macro, macros, rowCount, firstMacro, formAt, functionAt, numberIn, formOf, formsOf}
+use Rattle.spelling.specs.Spellings.{Macro, macros, rowCount, firstMacro, formAt, functionAt, numberIn, tableForm, formsOf}
 use Rattle.reading.specs.declared.Matched.{Matched}
 use Rattle.reading.specs.declared.Matched.the-variants.{Fits, Misfit}
 use Rattle.spelling.specs.declared.Places.{Places}
@@ -45,7 +45,7 @@ function-low k =
     by-test (ltb k 33) (λ g. rw g (omega (arith, ltb-true k 33 g))) (λ g. rw g (omega arith))))))
 
 row-taken : (k : ℕ) (p : Places) (to at : ℕ) → InRange p → all taken (formsOf k p to at) ≡ true
-unfolding formsOf formOf instrOf
+unfolding formsOf tableForm instrOf
 row-taken k p to at h =
     let hd = le-ltb 3 (p .d) (omega (arith, h .d)) in
     let ha = le-ltb 3 (p .a) (omega (arith, h .a)) in

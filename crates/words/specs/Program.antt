@@ -42,23 +42,23 @@ unfoldable pub programOf : List ℕ → List Instr
 programOf t = formsFrom (linesOf t) (linesOf t) 0
 
 -- the opcode byte and the argument byte of a form
-abbrev pub opcodeIn : Encoded → ℕ
-opcodeIn (Bytes op arg) = op
-opcodeIn BadBank = 0
-opcodeIn BadRegister = 0
-opcodeIn BadFunction = 0
+abbrev pub opcodeFrom : Encoded → ℕ
+opcodeFrom (Bytes op arg) = op
+opcodeFrom BadBank = 0
+opcodeFrom BadRegister = 0
+opcodeFrom BadFunction = 0
 
-abbrev pub argumentIn : Encoded → ℕ
-argumentIn (Bytes op arg) = arg
-argumentIn BadBank = 0
-argumentIn BadRegister = 0
-argumentIn BadFunction = 0
+abbrev pub argumentFrom : Encoded → ℕ
+argumentFrom (Bytes op arg) = arg
+argumentFrom BadBank = 0
+argumentFrom BadRegister = 0
+argumentFrom BadFunction = 0
 
 abbrev pub opcodeOf : Instr → ℕ
-opcodeOf i = opcodeIn (encodeOf i)
+opcodeOf i = opcodeFrom (encodeOf i)
 
 abbrev pub argumentOf : Instr → ℕ
-argumentOf i = argumentIn (encodeOf i)
+argumentOf i = argumentFrom (encodeOf i)
 
 -- a bank with a byte of each form, 00 behind them
 abbrev pub bankOf : (Instr → ℕ) → List Instr → List ℕ

@@ -42,7 +42,7 @@ fn store_row(k: usize, p: Places, to: u8, at: usize, opcodes: &mut [u8], argumen
     ensures { λ _. ⌜ (now (opcodes .exit) ≡ storedIn opcodeOf (formsOf k p to at) at (now (opcodes .entry))) × (now (arguments .exit) ≡ storedIn argumentOf (formsOf k p to at) at (now (arguments .entry))) ⌝ }
 {
     store(expansion::first_form(k, p, to), at, opcodes, arguments);
-    if k < 81 {
+    if k < spelling::FIRST_PAIR {
         return;
     }
     store(
@@ -51,7 +51,7 @@ fn store_row(k: usize, p: Places, to: u8, at: usize, opcodes: &mut [u8], argumen
         opcodes,
         arguments,
     );
-    if k < 86 {
+    if k < spelling::FIRST_TRIPLE {
         return;
     }
     store(expansion::third_form(k, to), at + 2, opcodes, arguments);

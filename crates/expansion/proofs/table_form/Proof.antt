@@ -1,11 +1,11 @@
 use borrow.Author.Needs.{needs}
 use borrow.Author.Tests.{lt-ltb, le-ltb, eq-eqb, ne-eqb}
-use Rattle.spelling.specs.Spellings.{formOf}
+use Rattle.spelling.specs.Spellings.{tableForm}
 use Rattle.expansion.proofs.table_form.Statement.{statement}
 use Rattle.expansion.proofs.table_form.Tie as tie
 
 pub table-form-spec : {M : Type 1} → statement M
-unfolding formOf
+unfolding tableForm
 table-form-spec =
     tie.close
     (tie.spec

@@ -10,7 +10,7 @@ use Rattle.spelling.specs.Spellings.{formsOf}
 use Rattle.spelling.specs.declared.Places.{Places}
 use Rattle.labels.specs.declared.Survey.{Survey}
 use Rattle.labels.specs.Lines.{linesOf, labelOf, isLabelled, sizeOf}
-use Rattle.labels.specs.Labels.{same, givenAt, repeats, misses}
+use Rattle.labels.specs.Labels.{givenAt, repeats, misses}
 
 -- how many bytes stand before the first line feed
 unfoldable pub cutOf : List ℕ → ℕ

@@ -1,5 +1,7 @@
 use borrow.Author.Needs.{needs}
 use Rattle.reading.proofs.OneRow.{one-row}
+use Rattle.words.specs.Program.{programOf}
+use Rattle.words.proofs.Counts.{forms-count}
 use Rattle.source.proofs.Printed.{reads-printed}
 use Rattle.source.proofs.AllValid.{program-valid}
 use Rattle.source.proofs.cesca_assemble.Statement.{statement}
@@ -17,5 +19,7 @@ cesca-assemble-spec =
       assembles = c .before .before .before .before .assemble .ensures;
       reads-printed = reads-printed _;
       one-row = one-row;
+      counted = λ n. forms-count _ _ 0;
+      all-counted = unfold programOf in forms-count _ _ 0;
       valid = program-valid _;
     }))

@@ -1,11 +1,11 @@
-use Rattle.spelling.specs.Words.{numberOf}
+use Rattle.spelling.specs.Words.{numeralOf}
 use borrow.Author.Tests.{eq-eqb, ne-eqb}
 use borrow.Author.Needs.{needs}
 use Rattle.spelling.proofs.number.Statement.{statement}
 use Rattle.spelling.proofs.number.Tie as tie
 
 pub number-spec : {M : Type 1} → statement M
-unfolding numberOf
+unfolding numeralOf
 number-spec =
     tie.close
     (tie.spec
