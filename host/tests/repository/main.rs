@@ -8,6 +8,7 @@ mod contracts;
 mod definitions;
 mod finding;
 mod functions;
+mod ignored;
 mod imports;
 mod independence;
 mod items;
