@@ -4,8 +4,9 @@ use super::console::Console;
 use super::failure::Failure;
 use super::input;
 use std::ffi::OsStr;
-use std::fs;
-use std::io::Write;
+use std::fs::{self, File, Metadata};
+use std::io::{self, Write};
+use std::os::fd::AsFd;
 use std::os::unix::fs::MetadataExt;
 
 /// Writes the file that a text is made into, unless it would replace the text.
@@ -26,17 +27,24 @@ pub fn write(
     fs::write(file, bytes).map_err(|error| Failure::of_file(file, &error))
 }
 
-/// Whether two names are of the same file, which is there: by their paths or by links.
-fn same(one: &OsStr, other: &OsStr) -> bool {
-    let [one, other] = [one, other].map(identity);
-    one.is_some() && one == other
+/// Whether the file that would be made is the text's own: by their paths, by links, or because
+/// standard input reads it.
+fn same(text: &OsStr, file: &OsStr) -> bool {
+    // Standard output is no file by its name.
+    if file == input::STANDARD {
+        return false;
+    }
+    let read = if text == input::STANDARD { standard_input() } else { fs::metadata(text) };
+    let [read, made] = [read, fs::metadata(file)].map(|found| found.ok().and_then(identity));
+    read.is_some() && read == made
 }
 
-/// The device and the inode of a file that is there; links are followed.
-fn identity(name: &OsStr) -> Option<(u64, u64)> {
-    // Standard input and output are no files by their name.
-    if name == input::STANDARD {
-        return None;
-    }
-    fs::metadata(name).ok().map(|metadata| (metadata.dev(), metadata.ino()))
+/// What standard input reads.
+fn standard_input() -> io::Result<Metadata> {
+    File::from(io::stdin().as_fd().try_clone_to_owned()?).metadata()
+}
+
+/// The device and the inode of a plain file: a terminal or /dev/null has no text to lose.
+fn identity(metadata: Metadata) -> Option<(u64, u64)> {
+    metadata.is_file().then(|| (metadata.dev(), metadata.ino()))
 }

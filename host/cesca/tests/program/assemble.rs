@@ -1,7 +1,7 @@
 //! `cesca assemble`.
 
-use crate::sandbox::{expect_err, expect_out, stored, Sandbox};
-use std::fs;
+use crate::sandbox::{expect_err, expect_out, ran, stored, Sandbox};
+use std::fs::{self, File};
 
 /// Listing A, as a member types it.
 const A: &str = "\
@@ -134,4 +134,23 @@ fn a_text_is_not_replaced_by_its_banks() {
         expect_err(sandbox.cesca(&["assemble", "mine.txt", banks]), 2, &told);
         assert_eq!(sandbox.read("mine.txt"), A.as_bytes());
     }
+}
+
+#[test]
+fn a_text_on_standard_input_is_not_replaced_by_its_banks() {
+    let sandbox = Sandbox::new("assemble-same-input").with("mine.txt", A);
+    fs::hard_link(sandbox.path("mine.txt"), sandbox.path("hard")).expect("a link");
+    let given = |banks: &str| {
+        let text = File::open(sandbox.path("mine.txt")).expect("the text");
+        ran(sandbox.command(&["assemble", "-", banks]).stdin(text).output().expect("the program"))
+    };
+    for banks in ["mine.txt", "hard", "/dev/stdin"] {
+        let told = format!("{banks}: the file would replace its text\n");
+        expect_err(given(banks), 2, &told);
+        assert_eq!(sandbox.read("mine.txt"), A.as_bytes());
+    }
+    expect_out(given("mine.banks"), "mine.banks: 8 words\n");
+    assert!(sandbox.read("mine.banks") == banks("a.bin"));
+    // Nothing is lost where both are the same device.
+    expect_out(sandbox.cesca(&["assemble", "-", "/dev/null"]), "/dev/null: 0 words\n");
 }
