@@ -19,12 +19,21 @@ pub fn print(console: &mut Console, options: &Options) -> Result<(), Failure> {
     Ok(())
 }
 
-/// The words of the banks with which a file begins, or the refusal of its length.
+/// The words of banks, or of those with which a listing begins; or the refusal of another length.
 fn words(file: &[u8]) -> Result<Vec<[u8; 2]>, Refusal> {
-    let Some((banks, _)) = file.split_at_checked(2 * BANK) else {
+    let banks = file.get(..2 * BANK).ok_or_else(|| {
         let words = format!("there are {} bytes, and banks have {}", file.len(), 2 * BANK);
-        return Err(Refusal::of_call(1).with_words(words));
-    };
+        Refusal::of_call(1).with_words(words)
+    })?;
+    if file.len() > banks.len() {
+        input::listing(file).map_err(longer)?;
+    }
     let (opcodes, arguments) = banks.split_at(BANK);
     Ok(opcodes.iter().zip(arguments).map(|(opcode, argument)| [*opcode, *argument]).collect())
+}
+
+/// The refusal of a file that is longer than banks and no listing.
+fn longer(refusal: Refusal) -> Refusal {
+    let words = format!("it is longer than banks and no listing: {}", refusal.words());
+    refusal.with_words(words)
 }

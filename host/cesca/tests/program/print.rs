@@ -74,5 +74,30 @@ fn files_that_are_too_short() {
     let sandbox = Sandbox::new("print-missing");
     let missing = "mine.banks: No such file or directory\n";
     expect_err(sandbox.cesca(&["print", "mine.banks"]), 2, missing);
-    expect_out(sandbox.cesca(&["print", "/dev/zero"]), "");
+}
+
+#[test]
+fn files_that_are_neither_banks_nor_a_listing() {
+    let longer = "it is longer than banks and no listing:";
+    let list = "not an even number from 2 to 128";
+    for (length, told) in [
+        (513, format!("2 at 0: {longer} the sheet has 1 bytes, not 512")),
+        (1023, format!("2 at 0: {longer} the sheet has 511 bytes, not 512")),
+        (1024, format!("3 at 0: {longer} the routine list has 0 bytes, {list}")),
+        (1027, format!("3 at 0: {longer} the routine list has 3 bytes, {list}")),
+        (1153, format!("3 at 0: {longer} the routine list has more than 128 bytes")),
+        (5000, format!("3 at 0: {longer} the routine list has more than 128 bytes")),
+    ] {
+        let text = "hlt\n".bytes().cycle().take(length).collect::<Vec<u8>>();
+        let sandbox = Sandbox::new("print-text").with("mine.txt", text);
+        let told = format!("mine.txt: refused {told}\n");
+        expect_err(sandbox.cesca(&["print", "mine.txt"]), 1, &told);
+    }
+    let sandbox = Sandbox::new("print-lengths").with("short.bin", vec![0; 1026]);
+    let sandbox = sandbox.with("long.bin", vec![0; 1152]);
+    expect_out(sandbox.cesca(&["print", "short.bin"]), "");
+    expect_out(sandbox.cesca(&["print", "long.bin"]), "");
+    let told =
+        format!("/dev/zero: refused 3 at 0: {longer} the routine list has more than 128 bytes\n");
+    expect_err(sandbox.cesca(&["print", "/dev/zero"]), 1, &told);
 }
