@@ -10,25 +10,42 @@ use std::string::FromUtf8Error;
 /// The name of standard input.
 pub const STANDARD: &str = "-";
 
-/// The most bytes of a listing's text.
-const MOST_TEXT: usize = 1_048_576;
+/// A kind of text that the program reads.
+struct Kind {
+    /// The most bytes that it may have.
+    most: usize,
+    /// What is told of a longer one.
+    longer: &'static str,
+}
+
+/// A listing's text.
+const TEXT: Kind = Kind { most: 1_048_576, longer: "over 1,048,576 bytes, too long for a listing" };
+
+/// A source. The 256 lines that banks have room for are under 10,000 bytes, and a long text with
+/// many labels takes long.
+const SOURCE: Kind = Kind { most: 65_536, longer: "over 65,536 bytes, too long for a source" };
 
 /// The bytes of a listing's file, as many as the desk reads.
 pub fn bytes(name: &OsStr) -> Result<Vec<u8>, Failure> {
     read(name, MOST_READ)
 }
 
-/// The text of a file, if it isn't too long and is UTF-8.
+/// The listing's text in a file, if it isn't too long and is UTF-8.
 pub fn text(name: &OsStr) -> Result<String, Failure> {
-    String::from_utf8(source(name)?).map_err(|error| Failure::of_text(name, &not_utf8(&error)))
+    let bytes = limited(name, &TEXT)?;
+    String::from_utf8(bytes).map_err(|error| Failure::of_text(name, &not_utf8(&error)))
 }
 
-/// The bytes of a text, if it isn't too long.
+/// The bytes of a source, if it isn't too long.
 pub fn source(name: &OsStr) -> Result<Vec<u8>, Failure> {
-    let bytes = read(name, MOST_TEXT + 1)?;
-    if bytes.len() > MOST_TEXT {
-        let reason = "over 1,048,576 bytes, too long for a listing";
-        return Err(Failure::File(format!("{}: {reason}", name.display())));
+    limited(name, &SOURCE)
+}
+
+/// The bytes of a text of this kind, if it isn't too long.
+fn limited(name: &OsStr, kind: &Kind) -> Result<Vec<u8>, Failure> {
+    let bytes = read(name, kind.most + 1)?;
+    if bytes.len() > kind.most {
+        return Err(Failure::File(format!("{}: {}", name.display(), kind.longer)));
     }
     Ok(bytes)
 }

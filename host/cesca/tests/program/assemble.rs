@@ -120,8 +120,20 @@ fn files_that_cannot_be_read_or_written() {
     expect_err(sandbox.cesca(&["assemble", "none.txt", "mine.banks"]), 2, missing);
     let directory = ".: Is a directory\n";
     expect_err(sandbox.cesca(&["assemble", "mine.txt", "."]), 2, directory);
-    let told = "/dev/zero: over 1,048,576 bytes, too long for a listing\n";
-    expect_err(sandbox.cesca(&["assemble", "/dev/zero"]), 2, told);
+    assert_eq!(sandbox.names(), ["mine.txt"]);
+}
+
+#[test]
+fn the_longest_source_and_longer_ones() {
+    let longest = "nop\n".repeat(16_384);
+    let sandbox = Sandbox::new("assemble-long").with("mine.txt", &longest);
+    let told = "mine.txt: refused 26: 16384 lines make more than 256 words\n";
+    expect_err(sandbox.cesca(&["assemble", "mine.txt"]), 1, told);
+    let sandbox = sandbox.with("mine.txt", longest + "n");
+    for text in ["mine.txt", "/dev/zero"] {
+        let told = format!("{text}: over 65,536 bytes, too long for a source\n");
+        expect_err(sandbox.cesca(&["assemble", text, "made.banks"]), 2, &told);
+    }
     assert_eq!(sandbox.names(), ["mine.txt"]);
 }
 
