@@ -1,6 +1,6 @@
 //! An instruction or macro that is none: its mnemonic, and what parts its operands. 24.
 
-use super::quote::quoted;
+use super::quote::{quoted, shown};
 use super::{operand, usage};
 
 /// What is wrong with a line behind its label, if it is no instruction or macro.
@@ -16,8 +16,25 @@ pub fn flaw(instruction: &str) -> Option<String> {
         return Some(flaw);
     }
     let operands: Vec<&str> = operands.into_iter().flat_map(|all| all.split(", ")).collect();
-    let flaw = operands.iter().find_map(|operand| operand::flaw(operand));
-    flaw.or_else(|| usage::misfit(mnemonic, &operands))
+    let number = operands.iter().map(|operand| operand::parted(operand)).sum();
+    usage::miscounted(mnemonic, number)
+        .or_else(|| spaced(&operands))
+        .or_else(|| single(mnemonic, &operands))
+        .or_else(|| usage::misfit(mnemonic, &operands))
+}
+
+/// The first operands without a comma between them.
+fn spaced(operands: &[&str]) -> Option<String> {
+    let spaced = operands.iter().find(|operand| operand::parted(operand) > 1)?;
+    Some(format!("{} lacks a comma", shown(spaced)))
+}
+
+/// What is wrong with the first operand that is wrong by itself.
+fn single(mnemonic: &str, operands: &[&str]) -> Option<String> {
+    let mut places = operands.iter().enumerate();
+    places.find_map(|(at, operand)| {
+        operand::flaw(operand, || usage::may_be_address(mnemonic, operands, at))
+    })
 }
 
 /// What is wrong with a mnemonic that there isn't.

@@ -35,9 +35,14 @@ fn unprintable(line: &[u8]) -> Option<String> {
     Some(format!("it has {what} in column {}", at + 1))
 }
 
-/// A comment.
+/// A comment, or the sign that a number has elsewhere.
 fn comment(line: &str) -> Option<String> {
-    let mark = COMMENTS.into_iter().find(|mark| line.contains(mark))?;
+    let marks = COMMENTS.into_iter().filter_map(|mark| Some((line.find(mark)?, mark)));
+    let (at, mark) = marks.min()?;
+    let digit = line[at + mark.len()..].starts_with(|next: char| next.is_ascii_digit());
+    if mark == "#" && at > 0 && digit {
+        return Some("a number has no \"#\" before it here".to_string());
+    }
     Some(format!("{mark:?} begins no comment here: a text has none"))
 }
 

@@ -3,14 +3,13 @@
 use super::label;
 use super::quote::shown;
 
-/// What is wrong with an operand, wherever it stands.
-pub fn flaw(operand: &str) -> Option<String> {
+/// What is wrong with an operand by itself; as a label, only where an address may stand.
+pub fn flaw(operand: &str, may_be_address: impl FnOnce() -> bool) -> Option<String> {
     let wrong = |words: &str| Some(format!("{} {words}", shown(operand)));
     let word = inside(operand);
     match (operand.starts_with('['), operand.ends_with(']')) {
         (true, false) | (false, true) => return wrong("has one bracket without the other"),
         (true, true) if word.contains(' ') => return wrong("has a space between its brackets"),
-        _ if word.contains(' ') => return wrong("lacks a comma"),
         _ => (),
     }
     match word.as_bytes() {
@@ -19,8 +18,21 @@ pub fn flaw(operand: &str) -> Option<String> {
         [b'+', b'0'..=b'9', ..] => wrong("has a sign"),
         [b'0'..=b'9', ..] => number(word),
         [b'R' | b'r', digits @ ..] if is_decimal(digits) => register(word),
-        letters if letters.iter().all(u8::is_ascii_alphanumeric) => label::flaw(word),
+        letters if letters.iter().all(u8::is_ascii_alphanumeric) => {
+            label::flaw(word).filter(|_| may_be_address())
+        }
         _ => wrong("is no operand"),
+    }
+}
+
+/// How many operands stand in the place of one, with spaces alone between them; a space between
+/// brackets parts nothing.
+pub fn parted(operand: &str) -> usize {
+    let whole = |part: &str| part.starts_with('[') == part.ends_with(']');
+    if operand.split(' ').all(whole) {
+        operand.split(' ').count()
+    } else {
+        1
     }
 }
 

@@ -65,20 +65,34 @@ pub fn is_known(mnemonic: &str) -> bool {
     small && mnemonic.len() <= MOST && USAGES.iter().any(|usage| is_usage(mnemonic, usage))
 }
 
-/// What is wrong with operands that are right by themselves: how many they are, or the first that
-/// doesn't fit behind those before it.
+/// What is wrong with so many operands, if other numbers are due.
+pub fn miscounted(mnemonic: &str, number: usize) -> Option<String> {
+    let takes = usages(mnemonic, number).next().is_some();
+    (!takes).then(|| other_number(mnemonic, number))
+}
+
+/// Whether an address may stand in an operand's place, behind those before it; in brackets, if the
+/// operand has them.
+pub fn may_be_address(mnemonic: &str, operands: &[&str], at: usize) -> bool {
+    let address = if operands[at].starts_with('[') { AtAddress } else { Address };
+    let mut usages = usages(mnemonic, operands.len());
+    usages.any(|usage| usage[at] == address && fitting(usage, operands) >= at)
+}
+
+/// The first operand that doesn't fit behind those before it, if they are as many as are due and
+/// right by themselves.
 pub fn misfit(mnemonic: &str, operands: &[&str]) -> Option<String> {
-    let fitting = |usage: &[Due]| {
-        let pairs = usage.iter().zip(operands);
-        pairs.take_while(|(due, operand)| due.fits(operand)).count()
-    };
     let usages: Vec<&[Due]> = usages(mnemonic, operands.len()).collect();
-    let Some(most) = usages.iter().map(|usage| fitting(usage)).max() else {
-        return Some(other_number(mnemonic, operands.len()));
-    };
+    let most = usages.iter().map(|usage| fitting(usage, operands)).max()?;
     let operand = operands.get(most)?;
-    let due = usages.iter().filter(|usage| fitting(usage) == most).map(|usage| usage[most]);
-    Some(misplaced(operand, due.collect()))
+    let nearest = usages.iter().filter(|usage| fitting(usage, operands) == most);
+    Some(misplaced(operand, nearest.map(|usage| usage[most]).collect()))
+}
+
+/// How many operands fit before the first that doesn't.
+fn fitting(usage: &[Due], operands: &[&str]) -> usize {
+    let pairs = usage.iter().zip(operands);
+    pairs.take_while(|(due, operand)| due.fits(operand)).count()
 }
 
 /// The usages of a mnemonic that have so many operands.

@@ -30,6 +30,17 @@ fn comments() {
     check_line("// doubles R0", &wrong("//"));
     check_line("hlt ; done", &wrong(";"));
     check_line("hlt  // done", &wrong("//"));
+    check_line("hlt // step #5", &wrong("//"));
+    check_line("hlt # 5", &wrong("#"));
+    check_line("#5 doubles R0", &wrong("#"));
+}
+
+#[test]
+fn a_sign_before_a_number_is_no_comment() {
+    let sign = "a number has no \"#\" before it here";
+    check_line("mov R0, #5", sign);
+    check_line("mov R0, [#0x1C]", sign);
+    check_line("mov R0, #5 ; five", sign);
 }
 
 #[test]
@@ -69,6 +80,18 @@ fn labels_that_are_given() {
     check_line("mov [abcdefghijklm], R0", long);
     check_line("jmp loop1", &letters("loop1"));
     check_line("mov R0, [loop1]", &letters("loop1"));
+    check_line("jgtu R0, 5, loop1", &letters("loop1"));
+}
+
+#[test]
+fn labels_where_none_may_stand() {
+    check_line("push X1", "X1 stands where a register is due");
+    check_line("jgt R0, loop1, 5", "loop1 stands where a register or a number is due");
+    check_line("mov IN, [loop1]", "[loop1] stands where Ack is due");
+    let due = "stands where a register, a number, IN, an address in brackets or a register in \
+               brackets is due";
+    check_line("mov R0, longlonglonglong", &format!("\"longlonglonglong\" {due}"));
+    check_line("mov R0, loop1", &format!("loop1 {due}"));
 }
 
 #[test]
@@ -89,6 +112,9 @@ fn commas() {
     check_line("add R0, R0,R1", "no space follows a comma");
     check_line("mov R0 , 5", "a space stands before a comma");
     check_line("mov R0 5", "\"R0 5\" lacks a comma");
+    check_line("mov R0 [5]", "\"R0 [5]\" lacks a comma");
+    check_line("mov [5] R0", "\"[5] R0\" lacks a comma");
+    check_line("add R0, R0 256", "\"R0 256\" lacks a comma");
     check_line("mov R0,", "an operand is missing beside a comma");
     check_line("mov , R0", "an operand is missing beside a comma");
     check_line("mov R0, , 5", "a space stands before a comma");
@@ -158,6 +184,15 @@ fn operands_missing_and_too_many() {
     check_line("swap R0, R1, R2", "swap takes 1 or 2 operands, not 3");
     check_line("jgtu R0, 5", "jgtu takes 3 operands, not 2");
     check_line("jeq R0, 5", "jeq takes 1 operand, not 2");
+    check_line("hlt 256", "hlt takes no operand");
+}
+
+#[test]
+fn operands_that_a_comma_would_make_too_many() {
+    check_line("hlt now please", "hlt takes no operand");
+    check_line("jmp loop end", "jmp takes 1 operand, not 2");
+    check_line("mov R0, 5 6", "mov takes 2 operands, not 3");
+    check_line("mov R0 5, 6", "mov takes 2 operands, not 3");
 }
 
 #[test]
