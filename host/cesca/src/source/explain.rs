@@ -2,7 +2,8 @@
 //!
 //! The library has decided by then, and is proved to decide rightly. Words are looked for that fit
 //! the number and the line that it gave; where the text shows nothing of the kind, the general
-//! words stay. What a mnemonic takes is asked of the library too, which alone knows the spellings.
+//! words stay. What a mnemonic takes is asked of the library too: `usage` has the operands that go
+//! together somewhere, and the library tells with which mnemonics.
 
 mod due;
 mod instruction;
