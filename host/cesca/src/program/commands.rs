@@ -86,6 +86,8 @@ pub static COMMANDS: [Command; 7] = [
             "Makes the banks of a text of instructions, or tells what is wrong with its",
             "first wrong line. Without BANKS, the words are shown for keying in: address,",
             "then opcode and argument in hexadecimal, then the instruction.",
+            "SOURCE may have macros and labels, as in loop: inc R0 and jmp loop. Numbers",
+            "are decimal, 0 to 255, or 0x and two hexadecimal digits: 28 is 0x1C too.",
         ],
         run: assemble::assemble,
     },

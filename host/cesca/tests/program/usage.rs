@@ -41,6 +41,8 @@ fn help_tells_limits_and_standard_input() {
     let help = help.split_whitespace().collect::<Vec<_>>().join(" ");
     for told in [
         "With --hz N, the time at this clock is told; N is whole, 1 to 1,000,000.",
+        "SOURCE may have macros and labels, as in loop: inc R0 and jmp loop.",
+        "Numbers are decimal, 0 to 255, or 0x and two hexadecimal digits: 28 is 0x1C too.",
         "- is standard input (not for `cesca step`, which reads its steps there)",
         "for the file that `cesca file` or `cesca assemble` makes, it is standard output.",
         "1 if something was refused, 2 if usage or input was wrong.",
