@@ -15,12 +15,12 @@ type OfLine = fn(&str) -> Outcome;
 /// The calls, each with its check.
 const CALLS: [(&str, OfBlock); 2] = [("assemble", source::assemble), ("print", source::print)];
 
-/// The files in which each line is a case, with its check.
-const LINES: [(&str, OfLine); 1] = [("words.txt", source::word)];
+/// The files in which each line is a case, by the beginning of their names, with its check.
+const LINES: [(&str, OfLine); 1] = [("words", source::word)];
 
 /// The outcomes of a file's cases, or of the file itself where it has none.
 pub fn outcomes(name: &str, text: &str) -> Vec<Outcome> {
-    let of_lines = LINES.into_iter().find(|(file, _)| *file == name);
+    let of_lines = LINES.into_iter().find(|(start, _)| name.starts_with(start));
     let outcomes: Vec<Outcome> = match of_lines {
         Some((_, check)) => lines(text).map(|line| check(line).map_err(named(line))).collect(),
         None => blocks(text).iter().map(outcome).collect(),
