@@ -1,6 +1,6 @@
 -- What a reached address demands: of the entry of its routine, of a call's target, and of each successor.
 -- Assumes nothing.
-use Prim.Native.Nat.{ℕ, _+_, _%_}
+use Prim.Native.Nat.{ℕ, _+_}
 use mathlib.Core.Bool.{Bool, false, cond}
 use mathlib.Core.List.{List, [], _∷_, _++_}
 use lib.Dec.{ltb}
@@ -52,7 +52,7 @@ called k = ofCallOr (λ t. demand t (entryCell t 0) ∷ []) [] k
 -- 16: a successor is in the same routine, at its depth, and has no mark against the rule
 abbrev pub following : ℕ → List Successor → List Demand
 following e [] = []
-following e (x ∷ xs) = demand (x .to) (cell e (x .depthThere % 256) (x .mark) 0) ∷ following e xs
+following e (x ∷ xs) = demand (x .to) (cell e (x .depthThere) (x .mark) 0) ∷ following e xs
 
 -- all that an address a of class k with the cell c demands, where n is the need of the callee
 abbrev pub demandsOf : Class → ℕ → Cell → ℕ → List Demand
