@@ -23,9 +23,8 @@ use Rattle.rules.proofs.AdmittedRules.{Fits, FitsAll, Rules}
 use Rattle.rules.proofs.Tests.{absurd-bool}
 use Rattle.drawings.specs.Reached.{Among, first, later, Reached, at-start, by-successor, by-call}
 use Rattle.drawings.specs.declared.Cell.{Cell}
-use Rattle.drawings.specs.declared.Demand.{Demand}
 use Rattle.drawings.specs.internal.Cells.{cell, packed, seen, needIn, depthIn, entryIn, markIn, cellIn, joined, merged}
-use Rattle.drawings.specs.internal.Demands.{demand, entryCell, roomOf, capped, targetOf, called, following, demandsOf, demandsAt}
+use Rattle.drawings.specs.internal.Demands.{Demand, demand, entryCell, roomOf, capped, targetOf, called, following, demandsOf, demandsAt}
 use Rattle.drawings.specs.internal.Visits.{met, meet, meetAll, visited, start, Visits, begin, visit}
 use Rattle.drawings.proofs.Keeping.{Kept, described-below}
 use Rattle.drawings.proofs.Weights.{Small, round, packed-seen, zero-unseen, unseen-zero, larger-within, merged-is-seen, merged-unseen, merged-seen}
@@ -181,7 +180,6 @@ module _ (A : Listing) (m : Kept A) (bytes : Bytes (A .list)) where
 
   -- ---- 16
 
-
   pub after-more : (e : OverflowEffect) (v v′ : Bool) → (v ≡ true → v′ ≡ true) → markAfter e v ≡ true → markAfter e v′ ≡ true
   after-more Keeps v v′ h q = h q
   after-more Settles v v′ h q = refl
@@ -235,12 +233,13 @@ module _ (A : Listing) (m : Kept A) (bytes : Bytes (A .list)) where
       let w = getD ws a 0 in
       let n = needIn (getD ws (targetOf k) 0) in
       let h : capped (roomOf k (depthIn w) n) ≤ need A (routine A a) =
-      rw (l .depth-is) (capped-within (roomOf k (depth A a) n) (need A (routine A a)) (room-within ws s a k r)) in
-      (entry-allowed (entryIn w) (routine A a) _ (sym (l .entry-is)) (m .named a (l .in-sheet)) (l .entry-reached) h,
-      allowed-append (called k) (following (entryIn w) (successors k a (depthIn w) (markIn w)))
-      (called-allowed a k (λ t. by-call a t (l .is-reached)) r)
-      (rw (l .depth-is)
-      (successors-allowed a (entryIn w) k (marked A a) (markIn w) (λ d v x. by-successor a d v x (l .is-reached)) (l .entry-reached) (l .entry-is) (l .marks) (r .fits))))
+      rw (l .depth-is) (capped-within (roomOf k (depth A a) n) (need A (routine A a)) (room-within ws s a k r)) in (
+        entry-allowed (entryIn w) (routine A a) _ (sym (l .entry-is)) (m .named a (l .in-sheet)) (l .entry-reached) h,
+        allowed-append (called k) (following (entryIn w) (successors k a (depthIn w) (markIn w)))
+            (called-allowed a k (λ t. by-call a t (l .is-reached)) r)
+            (rw (l .depth-is)
+            (successors-allowed a (entryIn w) k (marked A a) (markIn w) (λ d v x. by-successor a d v x (l .is-reached)) (l .entry-reached) (l .entry-is) (l .marks) (r .fits))),
+      )
 
   demands-at : (ws : List ℕ) → Sound ws → (a : ℕ) → AllAllowed (demandsAt (A .program) ws a)
   unfolding demandsAt
@@ -292,6 +291,7 @@ module _ (A : Listing) (m : Kept A) (bytes : Bytes (A .list)) where
     where
       first-word : getD (set (replicate 256 0) 0 (packed (entryCell 0 0))) 0 0 ≡ packed (entryCell 0 0)
       first-word = getD-set-same (replicate 256 0) 0 (packed (entryCell 0 0)) 0 (omega arith)
+
       below : (a : ℕ) → seen (getD (set (replicate 256 0) 0 (packed (entryCell 0 0))) a 0) ≡ true → Below a (cellIn (getD (set (replicate 256 0) 0 (packed (entryCell 0 0))) a 0))
       below zero q = rw first-word (subst (Below 0) (sym (round (entryCell 0 0) (below-small 0 (entryCell 0 0) zero-below))) zero-below)
       below (suc a) q = absurd-bool (sym q ∙ ap seen (zeros 255 a) ∙ zero-unseen)

@@ -7,7 +7,7 @@ use mathlib.Core.Bool.{true, false, not}
 use lib.ListN.{getD}
 use borrow.Author.Tests.{not-false}
 use Rattle.slices.proofs.Bools.{neither}
-use Rattle.drawings.specs.declared.Demand.{Demand}
+use Rattle.drawings.specs.internal.Demands.{Demand}
 use Rattle.drawings.specs.internal.Visits.{met, meet, anyOpen}
 use Rattle.drawings.proofs.Weights.{Has, has-is}
 

@@ -23,9 +23,8 @@ use Rattle.rules.proofs.Tests.{absurd-bool}
 use Rattle.drawings.specs.Drawn.{NeedsAtLeast}
 use Rattle.drawings.specs.Reached.{Among, first, later, Reached, at-start, by-successor, by-call}
 use Rattle.drawings.specs.declared.Cell.{Cell}
-use Rattle.drawings.specs.declared.Demand.{Demand}
 use Rattle.drawings.specs.internal.Cells.{cell, seen, needIn, depthIn, entryIn, markIn, cellIn}
-use Rattle.drawings.specs.internal.Demands.{entryCell, roomOf, capped, targetOf, called, following, demandsOf, demandsAt}
+use Rattle.drawings.specs.internal.Demands.{Demand, entryCell, roomOf, capped, targetOf, called, following, demandsOf, demandsAt}
 use Rattle.drawings.specs.internal.Visits.{isOpen, Settled}
 use Rattle.drawings.specs.internal.Drafts.{isEntry, rank, draftOf}
 use Rattle.drawings.proofs.Counting.{find-low, count, count-within, count-mono, count-more}
@@ -148,7 +147,7 @@ module _ (A : Listing) (m : Kept A) (bytes : Bytes (A .list)) (ws : List ℕ) (s
       let l = below-at x (s .0) in
       let i : entry A (routine A x) ≡ x = sym (l .entry-is) ∙ s .1 in
       let c = count-more (λ r. ltb (entry A r) x) (λ r. ltb (entry A r) (suc x)) (routines A) (routine A x) up (m .named x (l .in-sheet))
-          (le-ltb (entry A (routine A x)) x (omega arith)) (lt-ltb (entry A (routine A x)) (suc x) (omega arith)) in
+      (le-ltb (entry A (routine A x)) x (omega arith)) (lt-ltb (entry A (routine A x)) (suc x) (omega arith)) in
       rw (rank-step ws x e) (omega arith))
       (λ e. let c = count-mono (λ r. ltb (entry A r) x) (λ r. ltb (entry A r) (suc x)) (routines A) up in rw (rank-same ws x e) (omega arith))
 
@@ -209,7 +208,7 @@ module _ (A : Listing) (m : Kept A) (bytes : Bytes (A .list)) (ws : List ℕ) (s
         is-described = rw i (shown-at e q .is-described);
         its-own = rw i (routine-at e q ∙ ap (rank ws) (s .1) ∙ p .rank-is);
         at-top = rw i (shown-at e q .depth-is ∙ l .depth-is ∙ d);
-        unmarked = rw i (shown-at e q .marked-is ∙ u)
+        unmarked = rw i (shown-at e q .marked-is ∙ u);
       }
 
   -- ---- the rules at a reached address
@@ -256,13 +255,15 @@ module _ (A : Listing) (m : Kept A) (bytes : Bytes (A .list)) (ws : List ℕ) (s
       let s = h .0 .is-seen in
       let l = below-at t s in
       let b = k .0 .below in
-      let e : entryIn (at t) ≡ entryIn (at a) = l .entry-is ∙ sym (b .entry-is) in
-      (record {
-        is-described = shown-at t s .is-described;
-        same-routine = routine-at t s ∙ ap (rank ws) e ∙ sym (routine-at a q);
-        same-depth = shown-at t s .depth-is ∙ l .depth-is ∙ sym (b .depth-is);
-        may-mark = λ v. h .0 .may-mark (sym (shown-at t s .marked-is) ∙ v)
-      }, follow-fits a q xs (h .1) (k .1))
+      let e : entryIn (at t) ≡ entryIn (at a) = l .entry-is ∙ sym (b .entry-is) in (
+        record {
+          is-described = shown-at t s .is-described;
+          same-routine = routine-at t s ∙ ap (rank ws) e ∙ sym (routine-at a q);
+          same-depth = shown-at t s .depth-is ∙ l .depth-is ∙ sym (b .depth-is);
+          may-mark = λ v. h .0 .may-mark (sym (shown-at t s .marked-is) ∙ v);
+        },
+        follow-fits a q xs (h .1) (k .1),
+      )
 
   ask-rest : (xs ys : List Demand) → AllAllowed A m bytes (xs ++ ys) → AllAllowed A m bytes ys
   ask-rest [] ys h = h
@@ -290,7 +291,7 @@ module _ (A : Listing) (m : Kept A) (bytes : Bytes (A .list)) (ws : List ℕ) (s
             let u = rank-more ws 0 (entryIn (at a)) zero-entry (omega arith) in
             (rw (routine-at a q) (omega arith), w .depth-is ∙ l .depth-is ∙ x .1);
         calls = λ t v. call-fits a t q v;
-        fits = rw (w .depth-is, w .marked-is) (follow-fits a q (successors k a (depthIn (at a)) (markIn (at a))) (follow-met a q) (follow-asks a q))
+        fits = rw (w .depth-is, w .marked-is) (follow-fits a q (successors k a (depthIn (at a)) (markIn (at a))) (follow-met a q) (follow-asks a q));
       }
 
   pub draft-kept : Kept D

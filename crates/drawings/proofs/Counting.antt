@@ -42,10 +42,10 @@ count-more f g zero r h l p q = absurd (omega arith)
 count-more f g (suc n) r h l p q =
     by-test (eqb n r)
     (λ e. let s : n ≡ r = eqb-true n r e in
-          let p′ : f n ≡ false = rw s p in
-          let q′ : g n ≡ true = rw s q in
-          let c = count-mono f g n h in
-          rw (p′, q′) (omega arith))
+    let p′ : f n ≡ false = rw s p in
+    let q′ : g n ≡ true = rw s q in
+    let c = count-mono f g n h in
+    rw (p′, q′) (omega arith))
     (λ e. let ne : n ≢ r = eqb-false n r e in
-          let c = count-more f g n r h (omega arith) p q in
-          by-test (f n) (λ t. rw (t, h n t) (omega arith)) (λ t. by-test (g n) (λ u. rw (t, u) (omega arith)) (λ u. rw (t, u) c)))
+    let c = count-more f g n r h (omega arith) p q in
+    by-test (f n) (λ t. rw (t, h n t) (omega arith)) (λ t. by-test (g n) (λ u. rw (t, u) (omega arith)) (λ u. rw (t, u) c)))

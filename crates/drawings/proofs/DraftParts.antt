@@ -58,9 +58,9 @@ module _ (ws : List ℕ) where
       by-test (eqb (rank ws m) r)
       (λ q. record { place = m; within = omega arith; is-entry = e; rank-is = eqb-true _ _ q })
       (λ q. let ne : rank ws m ≢ r = eqb-false _ _ q in
-            let p = placed-at m r (omega arith) in
-            let w = p .within in
-            record { place = p .place; within = omega arith; is-entry = p .is-entry; rank-is = p .rank-is }))
+      let p = placed-at m r (omega arith) in
+      let w = p .within in
+      record { place = p .place; within = omega arith; is-entry = p .is-entry; rank-is = p .rank-is }))
       (λ e.
       let s = rank-same m e in
       let p = placed-at m r (omega arith) in
@@ -101,24 +101,24 @@ module _ (ws : List ℕ) where
   listed-at (suc n) i e zero h l b q =
       by-test (eqb i e)
       (λ j. let s : i ≡ e = eqb-true i e j in
-            let h′ : isEntry ws i ≡ true = rw s h in
-            rw (list-take i n h′) (record { entry-is = s; need-is = rw s refl }))
+      let h′ : isEntry ws i ≡ true = rw s h in
+      rw (list-take i n h′) (record { entry-is = s; need-is = rw s refl }))
       (λ j. let ne : i ≢ e = eqb-false i e j in
-            by-test (isEntry ws i)
-            (λ h′. absurd (let r = rank-more i e h′ (omega arith) in omega arith))
-            (λ h′. rw (list-skip i n h′) (listed-at n (suc i) e zero h (omega arith) (omega arith) (q ∙ ap (λ (x : ℕ). x + 0) (sym (rank-same i h′))))))
+      by-test (isEntry ws i)
+      (λ h′. absurd (let r = rank-more i e h′ (omega arith) in omega arith))
+      (λ h′. rw (list-skip i n h′) (listed-at n (suc i) e zero h (omega arith) (omega arith) (q ∙ ap (λ (x : ℕ). x + 0) (sym (rank-same i h′))))))
   listed-at (suc n) i e (suc k) h l b q =
       by-test (eqb i e)
       (λ j. absurd (let s : i ≡ e = eqb-true i e j in let q′ : rank ws i ≡ rank ws i + suc k = rw (sym s) at q in omega arith))
       (λ j. let ne : i ≢ e = eqb-false i e j in
-            by-test (isEntry ws i)
-            (λ h′.
-            let s = rank-step i h′ in
-            let r = listed-at n (suc i) e k h (omega arith) (omega arith) (omega arith) in
-            rw (list-take i n h′) (record { entry-is = rw (twice k) (r .entry-is); need-is = rw (twice-one k) (r .need-is) }))
-            (λ h′.
-            let s = rank-same i h′ in
-            rw (list-skip i n h′) (listed-at n (suc i) e (suc k) h (omega arith) (omega arith) (omega arith))))
+      by-test (isEntry ws i)
+      (λ h′.
+      let s = rank-step i h′ in
+      let r = listed-at n (suc i) e k h (omega arith) (omega arith) (omega arith) in
+      rw (list-take i n h′) (record { entry-is = rw (twice k) (r .entry-is); need-is = rw (twice-one k) (r .need-is) }))
+      (λ h′.
+      let s = rank-same i h′ in
+      rw (list-skip i n h′) (listed-at n (suc i) e (suc k) h (omega arith) (omega arith) (omega arith))))
 
   -- ---- the sheet
   pub sheet-long : (n i : ℕ) → length (sheetFrom ws i n) ≡ 2 * n
@@ -189,7 +189,7 @@ module _ (p : Program) (ws : List ℕ) where
         is-described = rw (seen-word a h e, described-read (depthIn w) (bit (markIn w)) r (depth-low w) t l);
         marked-is = rw (seen-word a h e, marked-read (depthIn w) (bit (markIn w)) r (depth-low w) t l) (bit-read (markIn w));
         routine-is = rw (seen-word a h e, routine-read (depthIn w) (bit (markIn w)) r (depth-low w) t l);
-        depth-is = rw (seen-word a h e, depth-read (depthIn w) (128 + 64 * bit (markIn w) + r) (depth-low w))
+        depth-is = rw (seen-word a h e, depth-read (depthIn w) (128 + 64 * bit (markIn w) + r) (depth-low w));
       }
 
   pub routines-are : routines D ≡ rank ws 256

@@ -9,9 +9,3 @@ pub struct Cell {
     pub mark: bool,
     pub need: u8,
 }
-
-// What a reached address asks of an address: at least this cell.
-pub struct Demand {
-    pub at: u8,
-    pub want: Cell,
-}

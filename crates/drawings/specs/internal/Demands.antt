@@ -11,8 +11,12 @@ use Rattle.model.specs.Step.{Program}
 use Rattle.rules.specs.Successors.{Successor, successors}
 use Rattle.drawings.specs.Reached.{classIn}
 use Rattle.drawings.specs.declared.Cell.{Cell}
-use Rattle.drawings.specs.declared.Demand.{Demand}
 use Rattle.drawings.specs.internal.Cells.{cell, seen, needIn, cellIn}
+
+-- what is asked of an address: at least this cell
+pub record Demand : Type 0 where
+  pub at : ℕ
+  pub want : Cell
 
 abbrev pub demand : ℕ → Cell → Demand
 demand a c = record { at = a; want = c }

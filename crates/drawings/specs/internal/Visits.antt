@@ -4,12 +4,11 @@ use Prim.Native.Nat.{ℕ, _<_}
 use mathlib.Core.Path.{_≡_}
 use mathlib.Core.Bool.{Bool, false, not, cond, _||_}
 use mathlib.Core.List.{List, [], _∷_}
-use lib.ListN.{getD, set, replicate}
+use lib.ListN.{length, getD, set, replicate}
 use Rattle.model.specs.Step.{Program}
 use Rattle.slices.specs.Sizes.{bankSize}
-use Rattle.drawings.specs.declared.Demand.{Demand}
-use Rattle.drawings.specs.internal.Cells.{packed, merged, has}
-use Rattle.drawings.specs.internal.Demands.{entryCell, demandsAt}
+use Rattle.drawings.specs.internal.Cells.{packed, merged, has, Progress}
+use Rattle.drawings.specs.internal.Demands.{Demand, entryCell, demandsAt}
 
 -- whether a demand is met
 abbrev pub met : List ℕ → Demand → Bool
@@ -27,6 +26,13 @@ meetAll ws (d ∷ ds) = meetAll (meet ws d) ds
 abbrev pub anyOpen : List ℕ → List Demand → Bool
 anyOpen ws [] = false
 anyOpen ws (d ∷ ds) = not (met ws d) || anyOpen (meet ws d) ds
+
+-- what a function that meets demands answers and leaves
+pub record Meets (ws ws′ : List ℕ) (ds : List Demand) (changed : Bool) : Type 0 where
+  pub after : ws′ ≡ meetAll ws ds
+  pub answers : changed ≡ anyOpen ws ds
+  pub progress : Progress changed ws ws′
+  pub long : length ws′ ≡ bankSize
 
 -- the words after a visit of an address, and whether it changed any
 unfoldable pub visited : Program → List ℕ → ℕ → List ℕ
