@@ -6,3 +6,4 @@ pub mod Counting
 pub mod Closed
 pub mod Completeness
 pub mod Drafted
+pub mod AgreeingSheets
