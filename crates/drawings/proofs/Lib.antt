@@ -7,3 +7,5 @@ pub mod Closed
 pub mod Completeness
 pub mod Drafted
 pub mod AgreeingSheets
+pub mod Ascending
+pub mod OneDrawing
