@@ -1,6 +1,6 @@
 // The cells of a drawing, one for each address, each a word; and a demand met.
 use drawings::Cell;
-ghost use Prim.Native.Nat.{_≤_};
+ghost use Prim.Native.Nat.{_≤_, _<_};
 ghost use mathlib.Core.Path.{_≡_};
 ghost use mathlib.Core.List.{[], _∷_};
 ghost use lib.ListN.{length, getD};
@@ -88,7 +88,7 @@ fn merge(w: u32, want: Cell) -> u32
 
 // Whether a word has what is asked of it.
 fn satisfies(w: u32, want: Cell) -> bool
-    ensures { λ r. ⌜ r ≡ has w want ⌝ }
+    ensures { λ r. ⌜ (r ≡ has w want) × (want .need < 256) ⌝ }
 {
     let c = unpack(w);
     (0 < w) & ((!c.mark | want.mark) & (want.need <= c.need))

@@ -12,7 +12,7 @@ use Rattle.model.specs.Step.{Program}
 use Rattle.rules.specs.Demand.{Bytes}
 use Rattle.rules.specs.Grounds.{admitOf, badBanks, badSheet, maxListSize}
 use Rattle.rules.specs.Sheet.{Listing, word, described, marked, routines, entry, need}
-use Rattle.drawings.specs.Reached.{Reached}
+use Rattle.drawings.specs.Reached.{banks, Reached}
 
 -- the listing of banks, a sheet and a list
 abbrev pub listed : Program → (sheet list : List ℕ) → Listing
@@ -60,7 +60,7 @@ pub record Lent : Type 0 where
   pub list : List ℕ
 
 abbrev pub lent : (ops args sheet list : List ℕ) → Lent
-lent ops args s l = record { program = record { opcodes = ops; arguments = args }; sheet = s; list = l }
+lent ops args s l = record { program = banks ops args; sheet = s; list = l }
 
 -- what it answers, 0 or the number of a refusal with the number of routines, and what it leaves in both buffers
 pub record Outcome : Type 0 where

@@ -10,6 +10,10 @@ use Rattle.isa.specs.declared.Class.the-variants.{Call}
 use Rattle.model.specs.Step.{Program, instrAt}
 use Rattle.rules.specs.Successors.{Successor, successors}
 
+-- the opcodes and the arguments of a program
+abbrev pub banks : (ops args : List ℕ) → Program
+banks ops args = record { opcodes = ops; arguments = args }
+
 -- the class of the instruction at an address
 abbrev pub classIn : Program → ℕ → Class
 classIn p a = classOf (instrAt p a)

@@ -1,17 +1,15 @@
+-- By the parts of the word.
+-- Assumes nothing.
+use mathlib.Core.Path.{refl}
+use Rattle.drawings.specs.internal.Cells.{seen, has}
 use borrow.Author.Needs.{needs}
 use Rattle.cells.proofs.satisfies.Statement.{statement}
 use Rattle.cells.proofs.satisfies.Tie as tie
-use Rattle.cells.proofs.satisfies.Reads as reads
-use Rattle.cells.proofs.satisfies.Lts as lts
-use Rattle.cells.proofs.unpack.Reads as unpack-reads
-
--- src/lib.rt:93:9
-unpack-requires : tie.Need-unpack-requires
-unpack-requires c κs = search needs
-
--- src/lib.rt:90:1
-returns : tie.Need-returns
-returns c = ?
 
 pub satisfies-spec : {M : Type 1} → statement M
-satisfies-spec = tie.close (tie.spec unpack-requires returns)
+unfolding has seen
+satisfies-spec =
+    tie.close
+    (tie.spec
+    (λ c κs. search needs)
+    (λ c. (rw (c .before .before .before .before .unpack .ensures) refl, c .before .struct-known3 .given .1 .1 .1 .0 .fits)))

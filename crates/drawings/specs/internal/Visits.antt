@@ -53,3 +53,10 @@ pub data Visits (p : Program) : List ℕ → Type 0 where
 pub record Settled (p : Program) (ws : List ℕ) : Type 0 where
   pub visits : Visits p ws
   pub closed : (a : ℕ) → a < bankSize → isOpen p ws a ≡ false
+
+-- what a pass over all addresses, once each, answers and leaves
+pub record Passes (p : Program) (ws ws′ : List ℕ) (changed : Bool) : Type 0 where
+  pub visits : Visits p ws′
+  pub progress : Progress changed ws ws′
+  pub long : length ws′ ≡ bankSize
+  pub closed : changed ≡ false → (a : ℕ) → a < bankSize → isOpen p ws a ≡ false
