@@ -24,7 +24,7 @@ ghost use Rattle.rules.specs.Successors.{markAfter};
 ghost use Rattle.addresses.specs.internal.Parts.{withoutBanks, classChecks, EntriesFit};
 
 // Whether V may be marked after an instruction.
-fn mark_after(effect: OverflowEffect, marked: bool) -> bool
+pub fn mark_after(effect: OverflowEffect, marked: bool) -> bool
     ensures { λ r. ⌜ r ≡ markAfter effect marked ⌝ }
 {
     match effect {

@@ -36,9 +36,9 @@ pub fn settle(opcodes: &[u8], arguments: &[u8], cells: &mut [u32])
     ensures { λ _. ⌜ Settled (banks (now (opcodes .entry)) (now (arguments .entry))) (now (cells .exit)) ⌝ }
 {
     let mut up = true;
-    let mut open = true;
-    while open {
-        open = pass(opcodes, arguments, cells, up);
+    let mut changed = true;
+    while changed {
+        changed = pass(opcodes, arguments, cells, up);
         up = !up;
     }
 }

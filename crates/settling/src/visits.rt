@@ -1,33 +1,22 @@
 // A visit of an address: all that it demands is met.
+use addresses::mark_after;
 use cells::entry_cell;
 use cells::meet;
 use cells::unpack;
 use cells::word_of;
 use drawings::Cell;
 use isa::Class;
-use isa::OverflowEffect;
 use slices::load;
 use std::num::wrapping_add_u8;
 ghost use Prim.Native.Nat.{_+_, _-_, _%_};
 ghost use mathlib.Core.Path.{_≡_};
 ghost use lib.ListN.{length, getD};
-ghost use Rattle.rules.specs.Successors.{markAfter, successors};
+ghost use Rattle.rules.specs.Successors.{successors};
 ghost use Rattle.slices.specs.Sizes.{bankSize};
 ghost use Rattle.drawings.specs.Reached.{banks};
 ghost use Rattle.drawings.specs.internal.Cells.{cell, needIn};
 ghost use Rattle.drawings.specs.internal.Demands.{roomOf, capped, targetOf, called, following, demandsAt};
 ghost use Rattle.drawings.specs.internal.Visits.{Meets};
-
-// Whether V may be marked after an instruction.
-fn mark_after(effect: OverflowEffect, marked: bool) -> bool
-    ensures { λ r. ⌜ r ≡ markAfter effect marked ⌝ }
-{
-    match effect {
-        OverflowEffect::Keeps => marked,
-        OverflowEffect::Settles => true,
-        OverflowEffect::Unsettles => false,
-    }
-}
 
 // One less than a depth, or 0.
 fn one_less(depth: u8) -> u8

@@ -1,95 +1,31 @@
+-- By whether the address is reached.
+-- Assumes nothing.
+use mathlib.Core.Path.{_≡_, sym, ap, _∙_}
+use Prim.Native.Nat.{ℕ}
+use Rattle.model.specs.Step.{instrAt}
+use Rattle.drawings.specs.internal.Cells.{cellIn}
+use Rattle.settling.proofs.Visiting.{not-reached, reached}
 use borrow.Author.Needs.{needs}
 use Rattle.settling.proofs.visits.visit.Statement.{statement}
 use Rattle.settling.proofs.visits.visit.Tie as tie
-use Rattle.settling.proofs.visits.visit.Reads as reads
-use Rattle.settling.proofs.visits.visit.Lts as lts
-use Rattle.cells.proofs.entry_cell.Reads as entry-cell-reads
-use Rattle.cells.proofs.meet.Reads as meet-reads
-use Rattle.cells.proofs.unpack.Reads as unpack-reads
-use Rattle.cells.proofs.word_of.Reads as word-of-reads
-use Rattle.classes.proofs.classify.Reads as classify-reads
-use Rattle.decoding.proofs.decode.Reads as decode-reads
-use Rattle.settling.proofs.visits.meet_callee.Reads as meet-callee-reads
-use Rattle.settling.proofs.visits.meet_successors.Reads as meet-successors-reads
-use Rattle.settling.proofs.visits.room.Reads as room-reads
-use Rattle.slices.proofs.load.Reads as load-reads
-
--- src/visits.rt:109:9
-word-of-requires : tie.Need-word-of-requires
-word-of-requires c κs = search needs
-
--- src/visits.rt:111:9
-same-length : tie.Need-same-length
-same-length c = search needs
-
--- src/visits.rt:111:9
-returns : tie.Need-returns
-returns c = ?
-
--- src/visits.rt:113:9
-unpack-requires : tie.Need-unpack-requires
-unpack-requires c κs = search needs
-
--- src/visits.rt:114:52
-load-requires : tie.Need-load-requires
-load-requires c κs = search needs
-
--- src/visits.rt:114:70
-load-requires-2 : tie.Need-load-requires-2
-load-requires-2 c κs = search needs
-
--- src/visits.rt:114:35
-decode-requires : tie.Need-decode-requires
-decode-requires c κs = search needs
-
--- src/visits.rt:114:9
-classify-requires : tie.Need-classify-requires
-classify-requires c κs = search needs
-
--- src/visits.rt:116:9
-room-requires : tie.Need-room-requires
-room-requires c κs = search needs
-
--- src/visits.rt:117:36
-entry-cell-requires : tie.Need-entry-cell-requires
-entry-cell-requires c κs = search needs
-
--- src/visits.rt:117:9
-meet-requires : tie.Need-meet-requires
-meet-requires c κs = search needs
-
--- src/visits.rt:118:9
-meet-callee-requires : tie.Need-meet-callee-requires
-meet-callee-requires c κs = search needs
-
--- src/visits.rt:119:9
-meet-successors-requires : tie.Need-meet-successors-requires
-meet-successors-requires c κs = search needs
-
--- src/visits.rt:105:1
-same-length-2 : tie.Need-same-length-2
-same-length-2 c = search needs
-
--- src/visits.rt:105:1
-returns-2 : tie.Need-returns-2
-returns-2 c = ?
 
 pub visit-spec : {M : Type 1} → statement M
+unfolding instrAt
 visit-spec =
     tie.close
     (tie.spec
-    word-of-requires
-    same-length
-    returns
-    unpack-requires
-    load-requires
-    load-requires-2
-    decode-requires
-    classify-requires
-    room-requires
-    entry-cell-requires
-    meet-requires
-    meet-callee-requires
-    meet-successors-requires
-    same-length-2
-    returns-2)
+    (λ c κs. search needs)
+    (λ c. search needs)
+    (λ c. let a = c .before .before .before .before .before .before .args in not-reached _ (a .cells .now) (a .a) (c .before .before .before .before .before .before .pre) (sym (c .before .word-of .ensures) ∙ c .if1 .taken))
+    (λ c κs. search needs)
+    (λ c κs. search needs)
+    (λ c κs. search needs)
+    (λ c κs. search needs)
+    (λ c κs. search needs)
+    (λ c κs. search needs)
+    (λ c κs. search needs)
+    (λ c κs. search needs)
+    (λ c κs. search needs)
+    (λ c κs. search needs)
+    (λ c. search needs)
+    (λ c. let a = c .before .before .before .before .before .before .before .before .before .before .before .before .before .before .before .before .before .before .before .before .before .before .before .before .before .before .args in reached _ (a .cells .now) (a .a) (c .before .before .before .before .before .before .before .before .before .before .before .before .before .before .before .before .before .before .before .unpack .result) (c .before .before .before .before .before .before .before .before .before .before .before .before .before .before .before .classify .result .0) (λ z. c .before .before .before .before .before .before .before .before .before .before .before .before .before .before .before .before .before .before .before .before .if1 .left (c .before .before .before .before .before .before .before .before .before .before .before .before .before .before .before .before .before .before .before .before .before .word-of .ensures ∙ z)) (c .before .before .before .before .before .before .before .before .before .before .before .before .before .before .before .before .before .before .before .unpack .ensures ∙ ap cellIn (c .before .before .before .before .before .before .before .before .before .before .before .before .before .before .before .before .before .before .before .before .before .word-of .ensures)) (rw (c .before .before .before .before .before .before .before .before .before .before .before .before .before .before .before .classify .ensures, c .before .before .before .before .before .before .before .before .before .before .before .before .before .before .before .before .decode .ensures .table, c .before .before .before .before .before .before .before .before .before .before .before .before .before .before .before .before .before .load2 .ensures, c .before .before .before .before .before .before .before .before .before .before .before .before .before .before .before .before .before .before .load .ensures)) (c .before .before .before .before .before .before .before .before .before .before .before .before .before .room .ensures) (c .before .before .before .before .before .before .before .before .before .before .meet .ensures) (c .before .before .before .before .before .before .before .before .before .before .before .entry-cell .ensures) (c .before .before .before .before .before .before .meet-callee .ensures) (c .before .before .meet-successors .ensures)))
