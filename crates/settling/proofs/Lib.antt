@@ -1,4 +1,1 @@
-pub mod Calls
-pub mod Meetings
 pub mod Passing
-pub mod Visiting

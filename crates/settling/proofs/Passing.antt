@@ -16,7 +16,7 @@ use Rattle.slices.proofs.Bools.{by-test, neither}
 use Rattle.drawings.specs.internal.Cells.{packed, total, Progress}
 use Rattle.drawings.specs.internal.Demands.{entryCell, demandsAt}
 use Rattle.drawings.specs.internal.Visits.{visited, isOpen, start, Visits, begin, visit, Meets, Passes, Settled}
-use Rattle.settling.proofs.Meetings.{progress-both}
+use Rattle.visiting.proofs.Meetings.{progress-both}
 
 -- the address at a place of a pass
 abbrev pub turnOf : Bool → ℕ → ℕ

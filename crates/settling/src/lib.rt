@@ -1,6 +1,4 @@
 // The demands of all addresses are met until none is open.
-pub mod visits;
-
 ghost use mathlib.Core.Path.{_≡_};
 ghost use mathlib.Core.Bool.{cond};
 ghost use Prim.Native.Nat.{_-_, _<_};
@@ -24,7 +22,7 @@ fn pass(opcodes: &[u8], arguments: &[u8], cells: &mut [u32], up: bool) -> bool
     let mut changed = false;
     let mut i: usize = 0;
     while i < 256 {
-        changed = changed | visits::visit(opcodes, arguments, cells, turn(up, i as u8));
+        changed = changed | visiting::visit(opcodes, arguments, cells, turn(up, i as u8));
         i += 1;
     }
     changed

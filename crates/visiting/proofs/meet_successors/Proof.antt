@@ -4,10 +4,10 @@ use mathlib.Core.Path.{refl, ap, _∙_}
 use Prim.Native.Nat.{ℕ}
 use mathlib.Core.Bool.{Bool}
 use Rattle.drawings.specs.internal.Cells.{cell}
-use Rattle.settling.proofs.Meetings.{met-none, met-both, met-as, met-wrapped}
+use Rattle.visiting.proofs.Meetings.{met-none, met-both, met-as, met-wrapped}
 use borrow.Author.Needs.{needs}
-use Rattle.settling.proofs.visits.meet_successors.Statement.{statement}
-use Rattle.settling.proofs.visits.meet_successors.Tie as tie
+use Rattle.visiting.proofs.meet_successors.Statement.{statement}
+use Rattle.visiting.proofs.meet_successors.Tie as tie
 
 pub meet-successors-spec : {M : Type 1} → statement M
 meet-successors-spec =

@@ -17,7 +17,7 @@ use Rattle.drawings.specs.internal.Cells.{seen, needIn, cellIn}
 use Rattle.drawings.specs.internal.Demands.{Demand, demand, demandsOf, entryCell, roomOf, capped, targetOf, called, following, demandsAt}
 use Rattle.drawings.specs.internal.Visits.{Meets}
 use Rattle.drawings.proofs.Weights.{zero-unseen}
-use Rattle.settling.proofs.Meetings.{met-none, met-both, met-as}
+use Rattle.visiting.proofs.Meetings.{met-none, met-both, met-as}
 
 pub not-reached : (p : Program) (ws : List ℕ) (a : ℕ) → length ws ≡ 256 → getD ws a 0 ≡ 0 → Meets ws ws (demandsAt p ws a) false
 unfolding demandsAt

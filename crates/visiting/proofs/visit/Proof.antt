@@ -4,10 +4,10 @@ use mathlib.Core.Path.{_≡_, sym, ap, _∙_}
 use Prim.Native.Nat.{ℕ}
 use Rattle.model.specs.Step.{instrAt}
 use Rattle.drawings.specs.internal.Cells.{cellIn}
-use Rattle.settling.proofs.Visiting.{not-reached, reached}
+use Rattle.visiting.proofs.Demanded.{not-reached, reached}
 use borrow.Author.Needs.{needs}
-use Rattle.settling.proofs.visits.visit.Statement.{statement}
-use Rattle.settling.proofs.visits.visit.Tie as tie
+use Rattle.visiting.proofs.visit.Statement.{statement}
+use Rattle.visiting.proofs.visit.Tie as tie
 
 pub visit-spec : {M : Type 1} → statement M
 unfolding instrAt

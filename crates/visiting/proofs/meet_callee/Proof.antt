@@ -1,11 +1,11 @@
 -- A call demands one thing, other classes nothing.
 -- Assumes nothing.
 use mathlib.Core.Path.{refl}
-use Rattle.settling.proofs.Calls.{no-call}
-use Rattle.settling.proofs.Meetings.{met-none, met-as}
+use Rattle.visiting.proofs.Calls.{no-call}
+use Rattle.visiting.proofs.Meetings.{met-none, met-as}
 use borrow.Author.Needs.{needs}
-use Rattle.settling.proofs.visits.meet_callee.Statement.{statement}
-use Rattle.settling.proofs.visits.meet_callee.Tie as tie
+use Rattle.visiting.proofs.meet_callee.Statement.{statement}
+use Rattle.visiting.proofs.meet_callee.Tie as tie
 
 pub meet-callee-spec : {M : Type 1} → statement M
 meet-callee-spec =

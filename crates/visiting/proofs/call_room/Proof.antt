@@ -2,8 +2,8 @@
 -- Assumes nothing.
 use borrow.Author.Tests.{lt-ltb, le-ltb}
 use borrow.Author.Needs.{needs}
-use Rattle.settling.proofs.visits.call_room.Statement.{statement}
-use Rattle.settling.proofs.visits.call_room.Tie as tie
+use Rattle.visiting.proofs.call_room.Statement.{statement}
+use Rattle.visiting.proofs.call_room.Tie as tie
 
 pub call-room-spec : {M : Type 1} → statement M
 call-room-spec =

@@ -4,10 +4,10 @@ use mathlib.Core.Path.{_≡_, refl, sym, ap, _∙_}
 use Prim.Native.Nat.{ℕ, _<_}
 use borrow.Author.Tests.{lt-ltb}
 use Rattle.drawings.specs.internal.Demands.{capped}
-use Rattle.settling.proofs.Calls.{no-call}
+use Rattle.visiting.proofs.Calls.{no-call}
 use borrow.Author.Needs.{needs}
-use Rattle.settling.proofs.visits.room.Statement.{statement}
-use Rattle.settling.proofs.visits.room.Tie as tie
+use Rattle.visiting.proofs.room.Statement.{statement}
+use Rattle.visiting.proofs.room.Tie as tie
 
 capped-byte : (d : ℕ) → d < 256 → capped d ≡ d
 capped-byte d h = rw (lt-ltb d 256 h)
