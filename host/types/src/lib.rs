@@ -4,12 +4,14 @@
 #![warn(missing_docs)]
 
 mod answers;
+mod drawing;
 mod limits;
 mod machine;
 mod refusal;
 mod source;
 
 pub use answers::{AluAnswer, Class, Effect, Facts, Fields, Overflow};
+pub use drawing::Drawing;
 pub use limits::{BANK, MOST_LIST, MOST_READ, MOST_ROUTINES, SHEET};
 pub use limits::{FASTEST_CLOCK, MOST_CYCLES, MOST_STEPS};
 pub use machine::{Flags, Lent, Report, State, Stop};

@@ -5,7 +5,7 @@ use std::error::Error;
 use std::fmt::{self, Display, Formatter};
 
 /// What each number stands for, from 1.
-const WORDS: [&str; 26] = [
+const WORDS: [&str; 27] = [
     "the opcodes or the arguments are not 256 bytes",
     "the sheet is not 512 bytes",
     "the routine list has an odd number of bytes, none, or more than 128",
@@ -34,6 +34,7 @@ const WORDS: [&str; 26] = [
     "the line is no instruction or macro",
     "a label is missing or given twice",
     "more than 256 words result",
+    "no sheet and list at all would be admitted with these banks",
 ];
 
 /// Why a listing or a call is refused, shown as `15 at 1: ..` or, for a call, as `19: ..`.
@@ -58,7 +59,7 @@ impl Refusal {
         Refusal { number, place: None, words: general(number) }
     }
 
-    /// The ground's number: 1 to 16 for a listing, 1 or 17 to 26 for a call.
+    /// The ground's number: 1 to 16 for a listing, 1 to 3 or 17 to 27 for a call.
     pub fn number(&self) -> u8 {
         self.number
     }
@@ -132,13 +133,13 @@ mod tests {
 
     #[test]
     fn each_number_has_words_of_its_own() {
-        for number in 1..=26 {
+        for number in 1..=27 {
             let words = Refusal::of_call(number);
             let words = words.words();
             assert_eq!(WORDS.iter().filter(|other| **other == words).count(), 1, "{number}");
             assert!(!words.contains('\n') && !words.ends_with('.'), "{words}");
         }
-        for number in [0, 27, 255] {
+        for number in [0, 28, 255] {
             assert_eq!(Refusal::of_call(number).words(), "no ground has this number");
         }
     }
