@@ -1,5 +1,5 @@
 //! The calls of the proved library for people who keep their own buffers: a safe function for each
-//! one that it exports, but for text, which `source` has.
+//! one that it exports, but for text, which `source` has, and drawing, which `draw` has.
 
 use crate::raw;
 use cesca_types::{AluAnswer, Facts, Fields, Lent, Refusal, Report, State};

@@ -76,8 +76,29 @@
 //! # }
 //! ```
 //!
-//! If you keep your own buffers, call [`assemble_into`], [`admit`] and [`run`] on them, and
-//! [`decode`], [`encode`] and [`put`] on single instructions:
+//! Banks alone become a listing by [`Listing::from_banks`]: [`draw()`] draws the sheet and the list,
+//! with the least need of each routine, unless no sheet and list at all would be admitted:
+//!
+//! ```
+//! # fn main() -> Result<(), Box<dyn std::error::Error>> {
+//! use cesca::{assemble, Listing};
+//!
+//! let source = b"mov R0, 5\ncall bump\nhlt\nbump: push R2\ninc R0\npop R2\nret\n";
+//! let banks = assemble(source)?;
+//! let listing = Listing::from_banks(banks.opcodes, banks.arguments)?;
+//! let routines: Vec<_> = listing.routines().iter().map(|it| (it.entry, it.need)).collect();
+//! assert_eq!(routines, [(0, 2), (3, 1)]);
+//! assert_eq!(listing.admit()?.need(), 2);
+//!
+//! let banks = assemble(b"pop R0\nhlt\n")?;
+//! let refusal = Listing::from_banks(banks.opcodes, banks.arguments).unwrap_err();
+//! assert_eq!((refusal.number(), refusal.place()), (27, None));
+//! # Ok(())
+//! # }
+//! ```
+//!
+//! If you keep your own buffers, call [`assemble_into`], [`draw_into`], [`admit`] and [`run`] on
+//! them, and [`decode`], [`encode`] and [`put`] on single instructions:
 //!
 //! ```
 //! use cesca::{Lent, State, Stop};
@@ -108,6 +129,7 @@
 mod admitted;
 mod board;
 mod calls;
+mod draw;
 mod explain;
 mod listing;
 mod raw;
@@ -122,6 +144,7 @@ pub use board::Board;
 pub use calls::{admit, alu, decode, encode, facts, put, run, running_time};
 #[doc(inline)]
 pub use cesca_types::*;
+pub use draw::{draw, draw_into};
 pub use listing::Listing;
 pub use sheet::{Routine, SheetWord};
 pub use source::{assemble, assemble_into, print, SourceRefusal};

@@ -1,9 +1,10 @@
 //! Listings: their parts, their files and their admission.
 
 use crate::calls::{admit, decode};
+use crate::draw::draw;
 use crate::explain::explained;
 use crate::{Admitted, Routine, SheetWord};
-use cesca_types::{Fields, Refusal, BANK, MOST_LIST, SHEET};
+use cesca_types::{Drawing, Fields, Refusal, BANK, MOST_LIST, SHEET};
 
 /// A listing: 256 opcodes, 256 arguments, the sheet and the routine list.
 #[derive(Clone, Debug, PartialEq, Eq)]
@@ -50,6 +51,15 @@ impl Listing {
         }
         let routines = routines.iter().map(|[entry, need]| Routine { entry: *entry, need: *need });
         Ok(Listing { opcodes, arguments, sheet, routines: routines.collect() })
+    }
+
+    /// The listing of these banks with the sheet and the list that [`draw`](crate::draw()) draws
+    /// for them, or the refusal 27 where no sheet and list at all would be admitted.
+    ///
+    /// It is admitted, and each of its needs is the least that the rules allow.
+    pub fn from_banks(opcodes: [u8; BANK], arguments: [u8; BANK]) -> Result<Listing, Refusal> {
+        let Drawing { sheet, list } = draw(&opcodes, &arguments)?;
+        Listing::from_parts(opcodes, arguments, sheet, &list)
     }
 
     /// The file of the listing.
