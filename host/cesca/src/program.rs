@@ -2,9 +2,11 @@
 
 mod admit;
 mod assemble;
+mod banks;
 mod bar;
 mod commands;
 mod console;
+mod draw;
 mod failure;
 mod file;
 mod help;

@@ -3,7 +3,7 @@
 use super::console::Console;
 use super::failure::Failure;
 use super::options::Options;
-use super::{admit, assemble, file, print, run, sheet, step};
+use super::{admit, assemble, draw, file, print, run, sheet, step};
 use std::ops::RangeInclusive;
 
 /// A command.
@@ -31,7 +31,7 @@ impl Command {
 }
 
 /// The commands, in the order of the help.
-pub static COMMANDS: [Command; 7] = [
+pub static COMMANDS: [Command; 8] = [
     Command {
         name: "admit",
         files: "FILE..",
@@ -90,6 +90,20 @@ pub static COMMANDS: [Command; 7] = [
             "are decimal, 0 to 255, or 0x and two hexadecimal digits: 28 is 0x1C too.",
         ],
         run: assemble::assemble,
+    },
+    Command {
+        name: "draw",
+        files: "SOURCE|BANKS|FILE [FILE]",
+        number: 1..=2,
+        options: &[],
+        about: &[
+            "Draws the sheet of a text's words, or of banks: the addresses that are",
+            "reached, and each routine with the least need that the rules allow. It is",
+            "shown as by `cesca sheet`. With a second name, the listing's file is made",
+            "too. For a listing's file, its banks are drawn anew, and it is told which of",
+            "its own needs are not the least.",
+        ],
+        run: draw::draw,
     },
     Command {
         name: "print",

@@ -11,7 +11,8 @@ FILE is a listing as the desk reads it, TEXT one as in listings/README.md.
 SOURCE has an instruction on each line, and BANKS has 256 opcodes and 256
 arguments, with which a FILE begins too.
 - is standard input (not for `cesca step`, which reads its steps there); for the
-file that `cesca file` or `cesca assemble` makes, it is standard output.
+file that `cesca file`, `cesca assemble` or `cesca draw` makes, it is standard
+output.
 
 The status is 0 if all went well, 1 if something was refused, 2 if usage or
 input was wrong.";

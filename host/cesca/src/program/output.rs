@@ -9,15 +9,15 @@ use std::io::{self, Write};
 use std::os::fd::AsFd;
 use std::os::unix::fs::MetadataExt;
 
-/// Writes the file that a text is made into, unless it would replace the text.
+/// Writes the file that a text or another file is made into, unless it would replace that.
 pub fn write(
     console: &mut Console,
-    text: &OsStr,
+    from: &OsStr,
     file: &OsStr,
     bytes: &[u8],
 ) -> Result<(), Failure> {
-    if same(text, file) {
-        let reason = "the file would replace its text";
+    if same(from, file) {
+        let reason = "the file would replace what it is made from";
         return Err(Failure::File(format!("{}: {reason}", file.display())));
     }
     if file == input::STANDARD {
@@ -27,14 +27,14 @@ pub fn write(
     fs::write(file, bytes).map_err(|error| Failure::of_file(file, &error))
 }
 
-/// Whether the file that would be made is the text's own: by their paths, by links, or because
-/// standard input reads it.
-fn same(text: &OsStr, file: &OsStr) -> bool {
+/// Whether the file that would be made is the one that is read: by their paths, by links, or
+/// because standard input reads it.
+fn same(from: &OsStr, file: &OsStr) -> bool {
     // Standard output is no file by its name.
     if file == input::STANDARD {
         return false;
     }
-    let read = if text == input::STANDARD { standard_input() } else { fs::metadata(text) };
+    let read = if from == input::STANDARD { standard_input() } else { fs::metadata(from) };
     let [read, made] = [read, fs::metadata(file)].map(|found| found.ok().and_then(identity));
     read.is_some() && read == made
 }
@@ -44,7 +44,7 @@ fn standard_input() -> io::Result<Metadata> {
     File::from(io::stdin().as_fd().try_clone_to_owned()?).metadata()
 }
 
-/// The device and the inode of a plain file: a terminal or /dev/null has no text to lose.
+/// The device and the inode of a plain file: a terminal or /dev/null has nothing to lose.
 fn identity(metadata: Metadata) -> Option<(u64, u64)> {
     metadata.is_file().then(|| (metadata.dev(), metadata.ino()))
 }

@@ -29,7 +29,7 @@ pub fn sheet(console: &mut Console, options: &Options) -> Result<(), Failure> {
 }
 
 /// Writes a listing's routines, whether it is admitted, and its addresses.
-fn show(console: &mut Console, listing: &Listing) -> io::Result<()> {
+pub fn show(console: &mut Console, listing: &Listing) -> io::Result<()> {
     let answer = listing.admit();
     let mark = answer.as_ref().map_or_else(Mark::of, |_| Mark::None);
     for (number, routine) in (0..).zip(listing.routines()) {

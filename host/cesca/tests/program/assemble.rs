@@ -142,7 +142,7 @@ fn a_text_is_not_replaced_by_its_banks() {
     let sandbox = Sandbox::new("assemble-same").with("mine.txt", A);
     fs::hard_link(sandbox.path("mine.txt"), sandbox.path("hard")).expect("a link");
     for banks in ["mine.txt", "./mine.txt", "hard"] {
-        let told = format!("{banks}: the file would replace its text\n");
+        let told = format!("{banks}: the file would replace what it is made from\n");
         expect_err(sandbox.cesca(&["assemble", "mine.txt", banks]), 2, &told);
         assert_eq!(sandbox.read("mine.txt"), A.as_bytes());
     }
@@ -157,7 +157,7 @@ fn a_text_on_standard_input_is_not_replaced_by_its_banks() {
         ran(sandbox.command(&["assemble", "-", banks]).stdin(text).output().expect("the program"))
     };
     for banks in ["mine.txt", "hard", "/dev/stdin"] {
-        let told = format!("{banks}: the file would replace its text\n");
+        let told = format!("{banks}: the file would replace what it is made from\n");
         expect_err(given(banks), 2, &told);
         assert_eq!(sandbox.read("mine.txt"), A.as_bytes());
     }

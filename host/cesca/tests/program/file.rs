@@ -142,7 +142,7 @@ fn a_text_is_not_replaced_by_its_file() {
         ("soft", "mine.txt"),
         ("soft", "hard"),
     ] {
-        let told = format!("{file}: the file would replace its text\n");
+        let told = format!("{file}: the file would replace what it is made from\n");
         expect_err(sandbox.cesca(&["file", text, file]), 2, &told);
         assert_eq!(sandbox.read("mine.txt"), A.as_bytes());
     }

@@ -3,6 +3,7 @@
 
 mod admit;
 mod assemble;
+mod draw;
 mod file;
 mod pipes;
 mod print;

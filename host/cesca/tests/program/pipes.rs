@@ -32,6 +32,9 @@ fn a_closed_pipe_ends_every_command_quietly() {
         (&["assemble", "source.txt"], 0),
         (&["assemble", "source.txt", "-"], 0),
         (&["assemble", "source.txt", "made.banks"], 0),
+        (&["draw", "pushes.bin"], 0),
+        (&["draw", "source.txt", "-"], 0),
+        (&["draw", "source.txt", "made.bin"], 0),
         (&["print", "pushes.bin"], 0),
     ] {
         let (reader, writer) = io::pipe().expect("a pipe");

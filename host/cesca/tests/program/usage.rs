@@ -3,12 +3,13 @@
 use crate::sandbox::{expect_err, expect_out, Sandbox};
 
 /// The usage lines of the commands.
-const COMMANDS: [&str; 8] = [
+const COMMANDS: [&str; 9] = [
     "cesca admit FILE..",
     "cesca run FILE [--keys 1,2,3] [--steps N] [--hz N]",
     "cesca sheet FILE",
     "cesca step FILE [--keys 1,2,3]",
     "cesca assemble SOURCE [BANKS]",
+    "cesca draw SOURCE|BANKS|FILE [FILE]",
     "cesca print BANKS|FILE",
     "cesca file TEXT FILE",
     "cesca help",
@@ -44,7 +45,7 @@ fn help_tells_limits_and_standard_input() {
         "SOURCE may have macros and labels, as in loop: inc R0 and jmp loop.",
         "Numbers are decimal, 0 to 255, or 0x and two hexadecimal digits: 28 is 0x1C too.",
         "- is standard input (not for `cesca step`, which reads its steps there)",
-        "for the file that `cesca file` or `cesca assemble` makes, it is standard output.",
+        "for the file that `cesca file`, `cesca assemble` or `cesca draw` makes, it is standard output.",
         "1 if something was refused, 2 if usage or input was wrong.",
     ] {
         assert!(help.contains(told), "{told}");
@@ -53,12 +54,16 @@ fn help_tells_limits_and_standard_input() {
 
 #[test]
 fn no_command() {
-    check(&[], "a command is missing", "cesca admit|run|sheet|step|assemble|print|file|help ..");
+    check(
+        &[],
+        "a command is missing",
+        "cesca admit|run|sheet|step|assemble|draw|print|file|help ..",
+    );
 }
 
 #[test]
 fn other_commands() {
-    let usage = "cesca admit|run|sheet|step|assemble|print|file|help ..";
+    let usage = "cesca admit|run|sheet|step|assemble|draw|print|file|help ..";
     check(&["mine.bin"], "there is no command mine.bin", usage);
     check(&["Admit", "a.bin"], "there is no command Admit", usage);
     check(&["--keys", "1"], "there is no command --keys", usage);
@@ -67,7 +72,7 @@ fn other_commands() {
 
 #[test]
 fn too_few_or_too_many_files() {
-    let [admit, run, sheet, step, assemble, print, file, _] = COMMANDS;
+    let [admit, run, sheet, step, assemble, draw, print, file, _] = COMMANDS;
     check(&["admit"], "admit takes FILE..", admit);
     check(&["run"], "run takes FILE", run);
     check(&["run", "--steps", "5"], "run takes FILE", run);
@@ -78,6 +83,8 @@ fn too_few_or_too_many_files() {
     check(&["step", "a.bin", "5"], "step takes FILE", step);
     check(&["assemble"], "assemble takes SOURCE [BANKS]", assemble);
     check(&["assemble", "a", "b", "c"], "assemble takes SOURCE [BANKS]", assemble);
+    check(&["draw"], "draw takes SOURCE|BANKS|FILE [FILE]", draw);
+    check(&["draw", "a", "b", "c"], "draw takes SOURCE|BANKS|FILE [FILE]", draw);
     check(&["print"], "print takes BANKS|FILE", print);
     check(&["print", "a.bin", "a.bin"], "print takes BANKS|FILE", print);
     check(&["file", "mine.txt"], "file takes TEXT FILE", file);
@@ -86,7 +93,7 @@ fn too_few_or_too_many_files() {
 
 #[test]
 fn other_options() {
-    let [admit, run, sheet, step, assemble, print, file, _] = COMMANDS;
+    let [admit, run, sheet, step, assemble, draw, print, file, _] = COMMANDS;
     check(&["admit", "--keys", "1", "a.bin"], "admit has no option --keys", admit);
     check(&["run", "a.bin", "--clock", "5"], "run has no option --clock", run);
     check(&["run", "a.bin", "--hz=5"], "run has no option --hz=5", run);
@@ -94,6 +101,7 @@ fn other_options() {
     check(&["sheet", "--", "a.bin"], "sheet has no option --", sheet);
     check(&["step", "a.bin", "--steps", "5"], "step has no option --steps", step);
     check(&["assemble", "-o", "b", "a"], "assemble has no option -o", assemble);
+    check(&["draw", "a", "--needs", "1"], "draw has no option --needs", draw);
     check(&["print", "a.bin", "--hex"], "print has no option --hex", print);
     check(&["file", "a", "b", "--hz", "5"], "file has no option --hz", file);
 }
