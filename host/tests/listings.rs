@@ -6,7 +6,7 @@ mod described;
 #[path = "common/stored.rs"]
 mod stored;
 
-use cesca::{admit, assemble, Assembled, BANK};
+use cesca::{admit, assemble, draw, Assembled, Drawing, Refusal, BANK};
 use described::{described, file, Described};
 use reference::Listing;
 use stored::{names, path, read, text};
@@ -17,6 +17,21 @@ fn answer(printed: &str) -> Result<(), u32> {
     let (number, place) = refused.trim_end().split_once(" at ").expect("a number and a place");
     let [number, place] = [number, place].map(|digits| digits.parse::<u32>().expect("digits"));
     Err(number + 256 * place)
+}
+
+/// The files that are said to be admitted.
+fn admitted() -> impl Iterator<Item = Described> {
+    described().into_iter().filter(|file| answer(&file.printed).is_ok())
+}
+
+/// The files that are said to be refused.
+fn refused() -> impl Iterator<Item = Described> {
+    described().into_iter().filter(|file| answer(&file.printed).is_err())
+}
+
+/// What is drawn from a listing's banks.
+fn drawing(listing: &Listing) -> Result<Drawing, Refusal> {
+    draw(&listing.opcodes, &listing.arguments)
 }
 
 #[test]
@@ -81,6 +96,41 @@ fn the_library_answers_what_is_described() {
         let found = admit(opcodes, arguments, sheet, list);
         assert_eq!(found.map_err(|refusal| refusal.answer()), answer(&printed), "{name}");
     }
+}
+
+#[test]
+fn the_needs_of_what_is_admitted_are_the_least() {
+    let mut drawn = 0;
+    for Described { name, listing, .. } in admitted() {
+        let Drawing { sheet, list } = drawing(&listing).expect(&name);
+        assert_eq!(list, listing.list, "{name}");
+        for (at, (found, own)) in sheet.iter().zip(&listing.sheet).enumerate() {
+            // V may be marked in more places: 40 of a word's high byte.
+            let more = if at % 2 == 1 && *own != 0 { 0x40 } else { 0 };
+            assert_eq!(*found | more, *own | more, "{name}: byte {at} of the sheet");
+            assert!(*found >= *own, "{name}: V isn't marked by byte {at}");
+        }
+        drawn += 1;
+    }
+    assert_eq!(drawn, 8);
+}
+
+#[test]
+fn what_is_refused_is_drawn_as_the_table_says() {
+    let readme = text(&path("../listings/README.md"));
+    let mut told = Vec::new();
+    for Described { name, listing, .. } in refused() {
+        let start = format!("| [{name}.bin]");
+        let row = readme.lines().find(|line| line.starts_with(&start)).expect("a row a file");
+        let found = match drawing(&listing) {
+            Ok(drawing) => format!("need {}", drawing.list[1]),
+            Err(refusal) => refusal.number().to_string(),
+        };
+        assert_eq!(row.split(" | ").nth(2), Some(found.as_str()), "{row}");
+        told.push(found);
+    }
+    told.sort();
+    assert_eq!(told, ["27", "27", "27", "27", "27", "27", "need 4"]);
 }
 
 #[test]

@@ -10,6 +10,7 @@ mod cases;
 #[allow(dead_code)]
 #[path = "../common/described.rs"]
 mod described;
+mod drawn;
 mod lengths;
 #[allow(dead_code)]
 #[path = "../common/memory.rs"]
