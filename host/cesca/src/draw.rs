@@ -70,8 +70,8 @@ fn decide(
     answer.outcome()
 }
 
-/// The refusal with the length that is wrong. The general words of 2 and 3 are about a listing's
-/// sheet and list, which may be shorter than a buffer lent for any.
+/// The refusal with the length that is wrong: the general words of 2 and 3 are about a listing's
+/// sheet and list, and not about buffers, of which the list's has room for any list.
 fn explained(refusal: Refusal, lengths: [usize; 4]) -> Refusal {
     let [opcodes, arguments, sheet, list] = lengths;
     let words = match refusal.number() {
