@@ -1,5 +1,5 @@
-//! Desk, machine and assembler written once more, from the papers alone, to hold the proved library
-//! against.
+//! Desk, machine, assembler and drawing written once more, from the papers alone, to hold the proved
+//! library against.
 //!
 //! The instruction table is kept as text, letter for letter as the CESCA document prints it, and
 //! read bit by bit. Speed is no aim here; a reader with the document beside the table is. The
@@ -10,6 +10,7 @@
 mod admission;
 mod alu;
 mod desk;
+mod drawing;
 mod facts;
 mod form;
 mod instruction;
@@ -22,6 +23,7 @@ mod text;
 pub use admission::admit;
 pub use alu::{alu, Function};
 pub use desk::desk;
+pub use drawing::{draw, hindrance, Hindrance};
 pub use form::Form;
 pub use instruction::Instruction;
 pub use listing::Listing;
