@@ -1,7 +1,7 @@
 //! A file of cases, and which check each of them goes to.
 
 use crate::blocks::{blocks, Block};
-use crate::source;
+use crate::{draw, source};
 
 /// Whether a case holds, or what is wrong.
 pub type Outcome = Result<(), String>;
@@ -13,7 +13,8 @@ type OfBlock = fn(&Block) -> Outcome;
 type OfLine = fn(&str) -> Outcome;
 
 /// The calls, each with its check.
-const CALLS: [(&str, OfBlock); 2] = [("assemble", source::assemble), ("print", source::print)];
+const CALLS: [(&str, OfBlock); 3] =
+    [("assemble", source::assemble), ("print", source::print), ("draw", draw::draw)];
 
 /// The files in which each line is a case, by the beginning of their names, with its check.
 const LINES: [(&str, OfLine); 1] = [("words", source::word)];
@@ -73,6 +74,11 @@ mod tests {
         let push = "case: a\ncall: print\nform: push Ra\nfields: Ra=3";
         assert_eq!(outcome("a.txt", push, "printed: push R3"), Ok(()));
         assert_eq!(outcome("words.txt", "", "5FFF|push R3|5F00"), Ok(()));
+        let hlt = "case: a\ncall: draw\nop: F8*256\narg: 00*256\nsheet: 11*512\nlist: 22*128\n\
+                   routines: 1\nsheet-after: 0080+00*510";
+        assert_eq!(outcome("a.txt", hlt, "list-after: 00*128"), Ok(()));
+        let short = "case: a\ncall: draw\nop: F8*256\narg: 00*256\nsheet: 11*511\nlist: -";
+        assert_eq!(outcome("a.txt", short, "refused: 2"), Ok(()));
     }
 
     #[test]
@@ -95,6 +101,24 @@ mod tests {
         assert!(wrong(push, "refused: 23"));
         assert!(outcome("words.txt", "", "5FFF|push R3|5FFF").is_err());
         assert!(outcome("words.txt", "", "5FFF|push R2|5E00").is_err());
+    }
+
+    #[test]
+    fn drawings_that_do_not_hold() {
+        let wrong = |first: &str, last: &str| outcome("a.txt", first, last).is_err();
+        let hlt = "case: a\ncall: draw\nop: F8*256\narg: 00*256\nsheet: 11*512\nlist: 22*128\n\
+                   sheet-after: 0080+00*510\nlist-after: 00*128";
+        assert!(!wrong(hlt, "routines: 1"));
+        assert!(wrong(hlt, "routines: 2"));
+        assert!(wrong(hlt, "refused: 27"));
+        assert!(wrong(hlt, "why: no answer"));
+        assert!(wrong(&hlt.replace("0080+00", "00C0+00"), "routines: 1"));
+        assert!(wrong(&hlt.replace("\nlist-after: 00*128", ""), "routines: 1"));
+        let ret = "case: a\ncall: draw\nop: AC*256\narg: 00*256\nsheet: 11*512\nlist: 22*128";
+        assert!(!wrong(ret, "refused: 27"));
+        assert!(wrong(ret, "refused: 3"));
+        assert!(wrong(ret, "routines: 1"));
+        assert!(wrong(&format!("{ret}\nlist-after: 00*128"), "refused: 27"));
     }
 
     #[test]

@@ -5,6 +5,12 @@
 #[path = "../source/banks.rs"]
 mod banks;
 mod blocks;
+#[allow(dead_code)]
+#[path = "../draw/buffers.rs"]
+mod buffers;
+mod draw;
+#[path = "../draw/drawers.rs"]
+mod drawers;
 mod file;
 #[allow(dead_code)]
 #[path = "../common/memory.rs"]
@@ -20,7 +26,7 @@ mod values;
 use stored::{names, path, text};
 
 /// The folders that must be there; any other that lies beside them is run too.
-const FOLDERS: [&str; 1] = ["01-text"];
+const FOLDERS: [&str; 2] = ["01-text", "02-drawn"];
 
 /// The folders of cases that lie here.
 fn folders() -> Vec<String> {
