@@ -1,13 +1,23 @@
-//! Speed of the library: runs beside two machines in Rust, admissions and assemblies beside the
-//! reference, and how all of them grow.
+//! Speed of the library: runs beside two machines in Rust, admissions, assemblies and drawings beside
+//! the reference, and how all of them grow.
 
 mod admissions;
 mod assemblies;
+mod banks;
 mod columns;
+mod drawings;
 mod growth;
+#[allow(dead_code)]
+#[path = "../../../tests/draw/programs.rs"]
+mod kinds;
 mod listings;
 mod machines;
 mod programs;
+#[allow(dead_code)]
+#[path = "../../../tests/common/random.rs"]
+mod random;
+#[path = "../../../tests/draw/routines.rs"]
+mod routines;
 mod runs;
 mod short;
 mod sources;
@@ -36,6 +46,8 @@ fn tables(out: &mut impl Write) -> io::Result<()> {
         admissions::table,
         assemblies::table,
         assemblies::growth_table,
+        drawings::table,
+        drawings::growth_table,
     ];
     for (number, table) in tables.into_iter().enumerate() {
         if number > 0 {
