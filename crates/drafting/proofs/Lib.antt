@@ -1,0 +1,4 @@
+pub mod Filling
+pub mod Numbering
+pub mod SheetBytes
+pub mod Entering
