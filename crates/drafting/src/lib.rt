@@ -1,8 +1,11 @@
 // The sheet and the list that settled cells give.
+use slices::BANK_SIZE;
 ghost use Prim.Native.Nat.{_+_, _*_, _≤_, _<_};
 ghost use mathlib.Core.Path.{_≡_};
 ghost use lib.ListN.{length, replicate};
 ghost use Rattle.slices.specs.Parts.{padded};
+ghost use Rattle.slices.specs.Sizes.{bankSize};
+ghost use Rattle.rules.specs.Grounds.{sheetSize, maxListSize};
 ghost use Rattle.drawings.specs.internal.Cells.{bit};
 ghost use Rattle.drawings.specs.internal.Drafts.{isEntry, rank, lowByte, highByte, sheetOf, listOf};
 ghost use Rattle.drafting.specs.internal.Writing.{numbersOf, rankAfter, listAfter};
@@ -20,7 +23,7 @@ fn is_entry(cells: &[u32], a: u8) -> bool
 
 // One more where an address is an entry.
 fn count_entry(cells: &[u32], a: u8, n: usize) -> usize
-    requires { ⌜ n ≤ 256 ⌝ }
+    requires { ⌜ n ≤ bankSize ⌝ }
     ensures { λ r. ⌜ r ≡ rankAfter (now (cells .entry)) a n ⌝ }
 {
     if is_entry(cells, a) { n + 1 } else { n }
@@ -28,12 +31,12 @@ fn count_entry(cells: &[u32], a: u8, n: usize) -> usize
 
 // Each address is given the number that a routine with its entry there has; the number of routines.
 pub fn number_routines(cells: &[u32], numbers: &mut [u8]) -> usize
-    requires { ⌜ length (now numbers) ≡ 256 ⌝ }
-    ensures { λ r. ⌜ (r ≡ rank (now (cells .entry)) 256) × (r ≤ 256) × (now (numbers .exit) ≡ numbersOf (now (cells .entry))) ⌝ }
+    requires { ⌜ length (now numbers) ≡ bankSize ⌝ }
+    ensures { λ r. ⌜ (r ≡ rank (now (cells .entry)) bankSize) × (r ≤ bankSize) × (now (numbers .exit) ≡ numbersOf (now (cells .entry))) ⌝ }
 {
     let mut n: usize = 0;
     let mut a: usize = 0;
-    while a < 256 {
+    while a < BANK_SIZE {
         numbers[a] = (n % 64) as u8;
         n = count_entry(cells, a as u8, n);
         a += 1;
@@ -65,11 +68,11 @@ fn sheet_word(cells: &[u32], numbers: &[u8], a: u8) -> Word
 
 // The sheet of the cells.
 pub fn write_sheet(cells: &[u32], numbers: &[u8], out: &mut [u8])
-    requires { ⌜ (length (now out) ≡ 512) × (now numbers ≡ numbersOf (now cells)) ⌝ }
+    requires { ⌜ (length (now out) ≡ sheetSize) × (now numbers ≡ numbersOf (now cells)) ⌝ }
     ensures { λ _. ⌜ now (out .exit) ≡ sheetOf (now (cells .entry)) ⌝ }
 {
     let mut a: usize = 0;
-    while a < 256 {
+    while a < BANK_SIZE {
         let w = sheet_word(cells, numbers, a as u8);
         out[2 * a] = w.0;
         out[2 * a + 1] = w.1;
@@ -93,12 +96,12 @@ fn write_entry(cells: &[u32], a: u8, n: usize, out: &mut [u8]) -> usize
 
 // The list of the cells, into a buffer of zeros.
 pub fn write_list(cells: &[u32], out: &mut [u8])
-    requires { ⌜ (now out ≡ replicate 128 0) × (rank (now cells) 256 ≤ 64) ⌝ }
-    ensures { λ _. ⌜ now (out .exit) ≡ padded 128 (listOf (now (cells .entry))) ⌝ }
+    requires { ⌜ (now out ≡ replicate maxListSize 0) × (rank (now cells) bankSize ≤ 64) ⌝ }
+    ensures { λ _. ⌜ now (out .exit) ≡ padded maxListSize (listOf (now (cells .entry))) ⌝ }
 {
     let mut n: usize = 0;
     let mut a: usize = 0;
-    while a < 256 {
+    while a < BANK_SIZE {
         n = write_entry(cells, a as u8, n, out);
         a += 1;
     }
