@@ -9,6 +9,9 @@ ghost use Rattle.drawings.specs.internal.Cells.{bit, packed, cellIn, larger, jo
 ghost use Rattle.drawings.specs.internal.Demands.{demand, entryCell};
 ghost use Rattle.drawings.specs.internal.Visits.{Meets};
 
+// The word of address 0 at the beginning: the entry of its routine, with no need yet.
+pub const ENTRY_0: u32 = 33554432;
+
 // The word of an address; 0 if it is not reached.
 pub fn word_of(cells: &[u32], a: u8) -> u32
     ensures { λ r. ⌜ r ≡ getD (now (cells .entry)) a 0 ⌝ }

@@ -28,7 +28,7 @@ use Rattle.drawings.specs.internal.Demands.{Demand, entryCell, roomOf, c
 use Rattle.drawings.specs.internal.Visits.{isOpen, Settled}
 use Rattle.drawings.specs.internal.Drafts.{isEntry, rank, draftOf}
 use Rattle.drawings.proofs.Counting.{find-low, count, count-within, count-mono, count-more}
-use Rattle.drawings.proofs.Keeping.{described-below, Kept}
+use Rattle.drawings.proofs.Keeping.{described-below, Kept, other-entry}
 use Rattle.drawings.proofs.Weights.{Has}
 use Rattle.drawings.proofs.Bounds.{need-byte, Below, Sound, AllAllowed, room-within, demands-allowed, below-256, visits-sound}
 use Rattle.drawings.proofs.DraftParts.{rank-zero, rank-step, rank-same, rank-mono, rank-more, Placed, placed-at, unseen-word, unseen-described, Shown, shown, routines-are, list-length, sheet-length, entry-listed}
@@ -212,13 +212,6 @@ module _ (A : Listing) (m : Kept A) (bytes : Bytes (A .list)) (ws : List ℕ) (s
       }
 
   -- ---- the rules at a reached address
-  -- a routine other than 0 has another entry
-  other-entry : (r : ℕ) → r < routines A → 0 < r → entry A r ≢ 0
-  other-entry r h l e =
-      let x : routine A 0 ≡ r = ap (routine A) (sym e) ∙ m .base .entries r h .its-own in
-      let y : routine A 0 ≡ 0 = ap (routine A) (sym (m .base .entry-zero)) ∙ m .base .entries 0 (m .base .some-routine) .its-own in
-      omega arith
-
   -- a call's target is an entry
   target-entry : (a t : ℕ) → seen (at a) ≡ true → classAt A a ≡ class.Call t → isEntry ws t ≡ true
   target-entry a t q k =
@@ -287,7 +280,7 @@ module _ (A : Listing) (m : Kept A) (bytes : Bytes (A .list)) (ws : List ℕ) (s
         own = λ v. rw (w .depth-is, l .depth-is) (r .own v);
         returns = λ v.
             let x = r .returns v in
-            let y : entryIn (at a) ≢ 0 = λ z. other-entry (routine A a) (m .named a (l .in-sheet)) (x .0) (sym (l .entry-is) ∙ z) in
+            let y : entryIn (at a) ≢ 0 = λ z. other-entry A m (routine A a) (m .named a (l .in-sheet)) (x .0) (sym (l .entry-is) ∙ z) in
             let u = rank-more ws 0 (entryIn (at a)) zero-entry (omega arith) in
             (rw (routine-at a q) (omega arith), w .depth-is ∙ l .depth-is ∙ x .1);
         calls = λ t v. call-fits a t q v;

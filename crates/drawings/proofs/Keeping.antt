@@ -2,7 +2,7 @@
 -- Assumes nothing.
 use Prim.Native.Nat.{ℕ, zero, suc, _+_, _*_, _/_, _%_, _≤_, _<_}
 use native.Mathlib.Omega.{arith}
-use mathlib.Core.Path.{_≡_, refl, sym, _∙_}
+use mathlib.Core.Path.{_≡_, refl, sym, ap, _∙_}
 use mathlib.Core.Logic.{_≢_}
 use mathlib.Core.List.{List, [], _∷_, _++_}
 use mathlib.Core.Bool.{Bool, true, false, not, cond, _&&_, _||_}
@@ -73,6 +73,13 @@ module _ (L : Listing) where
     pub blank : (a : ℕ) → a < 256 → described L a ≡ false → word L a ≡ 0
     pub named : (a : ℕ) → described L a ≡ true → routine L a < routines L
     pub goes-on : (a : ℕ) → described L a ≡ true → goesOn (classAt L a) ≡ true → a ≢ 255
+
+  -- a routine other than 0 has another entry
+  pub other-entry : Kept → (r : ℕ) → r < routines L → 0 < r → entry L r ≢ 0
+  other-entry m r h l e =
+      let x : routine L 0 ≡ r = ap (routine L) (sym e) ∙ m .base .entries r h .its-own in
+      let y : routine L 0 ≡ 0 = ap (routine L) (sym (m .base .entry-zero)) ∙ m .base .entries 0 (m .base .some-routine) .its-own in
+      omega arith
 
   -- ---- from the answer to the rules
 

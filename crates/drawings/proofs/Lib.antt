@@ -6,6 +6,7 @@ pub mod Completeness
 pub mod Counting
 pub mod DraftParts
 pub mod Drafted
+pub mod Hopeless
 pub mod Keeping
 pub mod OneDrawing
 pub mod Weights

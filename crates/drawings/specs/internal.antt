@@ -3,3 +3,4 @@ pub mod Cells
 pub mod Demands
 pub mod Visits
 pub mod Drafts
+pub mod Impossible

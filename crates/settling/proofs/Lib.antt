@@ -1,1 +1,2 @@
+pub mod Hindrances
 pub mod Passing

@@ -15,7 +15,8 @@ use Rattle.rules.proofs.Tests.{absurd-bool}
 use Rattle.slices.proofs.Bools.{by-test, neither}
 use Rattle.drawings.specs.internal.Cells.{packed, total, Progress}
 use Rattle.drawings.specs.internal.Demands.{entryCell, demandsAt}
-use Rattle.drawings.specs.internal.Visits.{visited, isOpen, start, Visits, begin, visit, Meets, Passes, Settled}
+use Rattle.drawings.specs.internal.Impossible.{Refutes, Settles}
+use Rattle.drawings.specs.internal.Visits.{visited, isOpen, start, Visits, begin, visit, Meets, Passes}
 use Rattle.visiting.proofs.Meetings.{progress-both}
 
 -- the address at a place of a pass
@@ -101,9 +102,8 @@ pub start-long : length start ≡ 256
 unfolding start
 start-long = length-set (replicate 256 0) 0 (packed (entryCell 0 0)) ∙ length-replicate {A = ℕ} 256 0
 
-pub settle-start : {p : Program} {ws : List ℕ} → ws ≡ start → SettleInvariant p ws true
-settle-start {p} {ws} e =
-    record { long = ap length e ∙ start-long; visits = subst (Visits p) (sym e) begin; closed = λ f. absurd-bool f }
+pub start-visits : {p : Program} {ws : List ℕ} → ws ≡ start → Visits p ws × (length ws ≡ 256)
+start-visits {p} {ws} e = (subst (Visits p) (sym e) begin, ap length e ∙ start-long)
 
 pub settle-less : {p : Program} {ws ws′ : List ℕ} {changed r : Bool} → changed ≡ true → Passes p ws ws′ r → left ws′ r < left ws changed
 settle-less {p} {ws} {ws′} {changed} {r} e m =
@@ -113,5 +113,8 @@ pub settle-on : {p : Program} {ws ws′ : List ℕ} {r : Bool} → Passes p ws w
 settle-on {p} {ws} {ws′} {r} m =
     record { long = m .long; visits = m .visits; closed = λ f a l. rw (m .progress .rests f) (m .closed f a l) }
 
-pub settle-end : {p : Program} {ws : List ℕ} {changed : Bool} → SettleInvariant p ws changed → changed ≡ false → Settled p ws
-settle-end v e = record { visits = v .visits; closed = v .closed e }
+pub settle-end : {p : Program} {ws : List ℕ} {changed : Bool} → SettleInvariant p ws changed → changed ≡ false → Settles p ws true
+settle-end v e = record { settled = λ _. record { visits = v .visits; closed = v .closed e }; none = λ f. absurd-bool f }
+
+pub settle-fails : {p : Program} {ws : List ℕ} {found : Bool} → Refutes p found → found ≡ true → Settles p ws false
+settle-fails r e = record { settled = λ f. absurd-bool (sym f); none = λ _. r .none e }

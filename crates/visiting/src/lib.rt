@@ -13,7 +13,7 @@ ghost use mathlib.Core.Path.{_≡_};
 ghost use lib.ListN.{length, getD};
 ghost use Rattle.rules.specs.Successors.{successors};
 ghost use Rattle.slices.specs.Sizes.{bankSize};
-ghost use Rattle.drawings.specs.Reached.{banks};
+ghost use Rattle.drawings.specs.Reached.{banks, classIn};
 ghost use Rattle.drawings.specs.internal.Cells.{cell, needIn};
 ghost use Rattle.drawings.specs.internal.Demands.{roomOf, capped, targetOf, called, following, demandsAt};
 ghost use Rattle.drawings.specs.internal.Visits.{Meets};
@@ -90,6 +90,15 @@ fn meet_successors(cells: &mut [u32], class: Class, a: u8, c: Cell) -> bool
     }
 }
 
+// The class of the instruction at an address.
+pub fn class_at(opcodes: &[u8], arguments: &[u8], a: u8) -> Class
+    ensures { λ r. ⌜ r ≡ classIn (banks (now (opcodes .entry)) (now (arguments .entry))) a ⌝ }
+{
+    let facts = classes::classify(decoding::decode(load(opcodes, a), load(arguments, a)));
+    let class = facts.0;
+    class
+}
+
 // All that an address demands is met; whether a demand was open.
 pub fn visit(opcodes: &[u8], arguments: &[u8], cells: &mut [u32], a: u8) -> bool
     requires { ⌜ length (now cells) ≡ bankSize ⌝ }
@@ -100,8 +109,7 @@ pub fn visit(opcodes: &[u8], arguments: &[u8], cells: &mut [u32], a: u8) -> bool
         return false;
     }
     let c = unpack(w);
-    let facts = classes::classify(decoding::decode(load(opcodes, a), load(arguments, a)));
-    let class = facts.0;
+    let class = class_at(opcodes, arguments, a);
     let need = room(cells, class, c.depth);
     let own = meet(cells, c.entry, entry_cell(c.entry, need));
     let called = meet_callee(cells, class);

@@ -1,8 +1,6 @@
 -- By whether the address is reached.
 -- Assumes nothing.
-use mathlib.Core.Path.{_≡_, sym, ap, _∙_}
-use Prim.Native.Nat.{ℕ}
-use Rattle.model.specs.Step.{instrAt}
+use mathlib.Core.Path.{sym, ap, _∙_}
 use Rattle.drawings.specs.internal.Cells.{cellIn}
 use Rattle.visiting.proofs.Demanded.{not-reached, reached}
 use borrow.Author.Needs.{needs}
@@ -10,7 +8,6 @@ use Rattle.visiting.proofs.visit.Statement.{statement}
 use Rattle.visiting.proofs.visit.Tie as tie
 
 pub visit-spec : {M : Type 1} → statement M
-unfolding instrAt
 visit-spec =
     tie.close
     (tie.spec
@@ -24,8 +21,5 @@ visit-spec =
     (λ c κs. search needs)
     (λ c κs. search needs)
     (λ c κs. search needs)
-    (λ c κs. search needs)
-    (λ c κs. search needs)
-    (λ c κs. search needs)
     (λ c. search needs)
-    (λ c. let a = c .before .before .before .before .before .before .before .before .before .before .before .before .before .before .before .before .before .before .before .before .before .before .before .before .before .before .args in reached _ (a .cells .now) (a .a) (c .before .before .before .before .before .before .before .before .before .before .before .before .before .before .before .before .before .before .before .unpack .result) (c .before .before .before .before .before .before .before .before .before .before .before .before .before .before .before .classify .result .0) (λ z. c .before .before .before .before .before .before .before .before .before .before .before .before .before .before .before .before .before .before .before .before .if1 .left (c .before .before .before .before .before .before .before .before .before .before .before .before .before .before .before .before .before .before .before .before .before .word-of .ensures ∙ z)) (c .before .before .before .before .before .before .before .before .before .before .before .before .before .before .before .before .before .before .before .unpack .ensures ∙ ap cellIn (c .before .before .before .before .before .before .before .before .before .before .before .before .before .before .before .before .before .before .before .before .before .word-of .ensures)) (rw (c .before .before .before .before .before .before .before .before .before .before .before .before .before .before .before .classify .ensures, c .before .before .before .before .before .before .before .before .before .before .before .before .before .before .before .before .decode .ensures .table, c .before .before .before .before .before .before .before .before .before .before .before .before .before .before .before .before .before .load2 .ensures, c .before .before .before .before .before .before .before .before .before .before .before .before .before .before .before .before .before .before .load .ensures)) (c .before .before .before .before .before .before .before .before .before .before .before .before .before .room .ensures) (c .before .before .before .before .before .before .before .before .before .before .meet .ensures) (c .before .before .before .before .before .before .before .before .before .before .before .entry-cell .ensures) (c .before .before .before .before .before .before .meet-callee .ensures) (c .before .before .meet-successors .ensures)))
+    (λ c. let a = c .before .before .before .before .before .before .before .before .before .before .before .before .before .before .before .before .before .before .before .before .before .before .before .args in reached _ (a .cells .now) (a .a) (c .before .before .before .before .before .before .before .before .before .before .before .before .before .before .before .before .unpack .result) (c .before .before .before .before .before .before .before .before .before .before .before .before .before .before .before .class-at .result) (λ z. c .before .before .before .before .before .before .before .before .before .before .before .before .before .before .before .before .before .if1 .left (c .before .before .before .before .before .before .before .before .before .before .before .before .before .before .before .before .before .before .word-of .ensures ∙ z)) (c .before .before .before .before .before .before .before .before .before .before .before .before .before .before .before .before .unpack .ensures ∙ ap cellIn (c .before .before .before .before .before .before .before .before .before .before .before .before .before .before .before .before .before .before .word-of .ensures)) (c .before .before .before .before .before .before .before .before .before .before .before .before .before .before .before .class-at .ensures) (c .before .before .before .before .before .before .before .before .before .before .before .before .before .room .ensures) (c .before .before .before .before .before .before .before .before .before .before .meet .ensures) (c .before .before .before .before .before .before .before .before .before .before .before .entry-cell .ensures) (c .before .before .before .before .before .before .meet-callee .ensures) (c .before .before .meet-successors .ensures)))
