@@ -166,7 +166,7 @@ module _ (A : Listing) (m : Kept A) (bytes : Bytes (A .list)) (ws : List ℕ) (s
       let c = list-short in
       omega arith
 
-  some : 0 < rank ws 256
+  pub some : 0 < rank ws 256
   some = let a = rank-more ws 0 256 zero-entry (omega arith) in omega arith
 
   -- ---- what the drawn sheet says of a reached address

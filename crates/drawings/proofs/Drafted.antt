@@ -22,7 +22,7 @@ use Rattle.drawings.specs.internal.Visits.{Settled}
 use Rattle.drawings.proofs.Keeping.{Kept, kept, accepted}
 use Rattle.drawings.proofs.Weights.{bit-two, need-low, depth-low}
 use Rattle.drawings.proofs.DraftParts.{list-length, sheet-length}
-use Rattle.drawings.proofs.Completeness.{draft-kept, few, described-reached, reached-described, marks-most, needs-least, ordered}
+use Rattle.drawings.proofs.Completeness.{draft-kept, few, some, described-reached, reached-described, marks-most, needs-least, ordered}
 
 -- ---- a draft is of bytes
 
@@ -90,3 +90,6 @@ module _ (p : Program) (ws : List ℕ) (settled : Settled p ws) where
   -- more than 64 routines
   pub too-many : 64 < rank ws 256 → (s l : List ℕ) → Admitted p s l → ⊥
   too-many many s l h = let f = few (listed p s l) (kept (listed p s l) (h .accepted)) (h .list-bytes) ws settled in omega arith
+
+  pub no-routines : rank ws 256 ≡ 0 → (s l : List ℕ) → Admitted p s l → ⊥
+  no-routines e s l h = let f = some (listed p s l) (kept (listed p s l) (h .accepted)) (h .list-bytes) ws settled in omega arith

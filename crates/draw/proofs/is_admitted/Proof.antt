@@ -1,31 +1,23 @@
+-- Admission judges the draft.
+-- Assumes nothing.
+use native.Mathlib.Omega.{arith}
+use native.Mathlib.Nat.{pos-of-ne-zero}
+use Prim.Native.Nat.{ℕ, _*_, _≤_}
+use mathlib.Core.Path.{ap, _∙_}
+use mathlib.Core.List.{List}
+use Rattle.rules.specs.Grounds.{admitOf}
+use Rattle.rules.specs.Sheet.{listing}
+use Rattle.draw.proofs.Outcomes.{judged, nothing-judged}
 use borrow.Author.Needs.{needs}
 use Rattle.draw.proofs.is_admitted.Statement.{statement}
 use Rattle.draw.proofs.is_admitted.Tie as tie
-use Rattle.draw.proofs.is_admitted.Reads as reads
-use Rattle.draw.proofs.is_admitted.Lts as lts
-use Rattle.admission.proofs.cesca_admit.Reads as cesca-admit-reads
-use Rattle.slices.proofs.part.Reads as part-reads
-
--- src/lib.rt:62:9
-returns : tie.Need-returns
-returns c = ?
-
--- src/lib.rt:64:69
-mul-part : tie.Need-mul-part
-mul-part c = ?
-
--- src/lib.rt:64:55
-part-requires : tie.Need-part-requires
-part-requires c κs = search needs
-
--- src/lib.rt:64:5
-cesca-admit-requires : tie.Need-cesca-admit-requires
-cesca-admit-requires c κs = search needs
-
--- src/lib.rt:57:1
-returns-2 : tie.Need-returns-2
-returns-2 c = ?
 
 pub is-admitted-spec : {M : Type 1} → statement M
 is-admitted-spec =
-    tie.close (tie.spec returns mul-part part-requires cesca-admit-requires returns-2)
+    tie.close
+    (tie.spec
+    (λ c. let a = c .before .before .before .before .before .args in nothing-judged _ (a .sheet .now) (a .list .now) (a .n) (c .before .before .before .before .before .pre) (c .if1 .taken))
+    (λ c. let f = c .before .before .before .before .before .pre .some (pos-of-ne-zero (c .if1 .left)) .few in omega arith)
+    (λ c κs. search needs)
+    (λ c κs. search needs)
+    (λ c. let a = c .before .before .before .before .before .before .before .args in judged _ (a .sheet .now) (a .list .now) (a .n) (c .cesca-admit .result) (c .before .before .before .before .before .before .before .pre) (c .before .before .if1 .left) (c .cesca-admit .ensures .answers ∙ ap (λ (l : List ℕ). admitOf (listing (a .opcodes .now) (a .arguments .now) (a .sheet .now) l)) (c .before .part .ensures))))
