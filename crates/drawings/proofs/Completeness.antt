@@ -2,12 +2,12 @@
 -- Rules 9, 11, 12 and 13 hold of the draft since they hold of the admitted listing at the same address; 8, 14, 15 and 16 since no demand is
 -- open; 10 since the draft has every mark that the admitted sheet has.
 -- Assumes nothing.
-use Prim.Native.Nat.{ℕ, zero, suc, _+_, _*_, _/_, _%_, _≤_, _<_, zero-le}
+use Prim.Native.Nat.{ℕ, zero, suc, _+_, _*_, _%_, _≤_, _<_, zero-le}
 use native.Mathlib.Omega.{arith}
-use mathlib.Core.Path.{_≡_, refl, sym, ap, _∙_, subst}
+use mathlib.Core.Path.{_≡_, sym, ap, _∙_, subst}
 use mathlib.Core.Logic.{_≢_}
 use mathlib.Core.List.{List, [], _∷_, _++_}
-use mathlib.Core.Bool.{Bool, true, false, not, cond}
+use mathlib.Core.Bool.{Bool, true, false}
 use lib.ListN.{length, getD}
 use lib.Dec.{eqb, ltb}
 use borrow.Author.Tests.{eqb-true, ltb-false, ltb-true, eq-eqb, ne-eqb, lt-ltb, le-ltb}
@@ -15,15 +15,14 @@ use Rattle.isa.specs.declared.Class.{Class}
 use Rattle.isa.specs.declared.Class.the-variants as class
 use Rattle.slices.proofs.Bools.{by-test, both, neither}
 use Rattle.rules.specs.Demand.{Bytes}
-use Rattle.rules.specs.Grounds.{find, callee, badList}
-use Rattle.rules.specs.Sheet.{Listing, word, described, marked, routine, depth, routines, entry, need, classAt}
+use Rattle.rules.specs.Grounds.{find, callee}
+use Rattle.rules.specs.Sheet.{Listing, described, marked, routine, depth, routines, entry, need, classAt}
 use Rattle.rules.specs.Successors.{Successor, successors}
-use Rattle.rules.proofs.AdmittedRules.{find-passes, Fits, FitsAll, CallFits, Rules, EntryFits}
+use Rattle.rules.proofs.AdmittedRules.{find-passes, FitsAll, CallFits, Rules, EntryFits}
 use Rattle.rules.proofs.Tests.{absurd-bool}
 use Rattle.drawings.specs.Drawn.{NeedsAtLeast}
 use Rattle.drawings.specs.Reached.{Among, first, later, Reached, at-start, by-successor, by-call}
-use Rattle.drawings.specs.declared.Cell.{Cell}
-use Rattle.drawings.specs.internal.Cells.{cell, seen, needIn, depthIn, entryIn, markIn, cellIn}
+use Rattle.drawings.specs.internal.Cells.{seen, needIn, depthIn, entryIn, markIn, cellIn}
 use Rattle.drawings.specs.internal.Demands.{Demand, entryCell, roomOf, capped, targetOf, called, following, demandsOf, demandsAt}
 use Rattle.drawings.specs.internal.Visits.{isOpen, Settled}
 use Rattle.drawings.specs.internal.Drafts.{isEntry, rank, draftOf}

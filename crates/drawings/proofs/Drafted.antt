@@ -1,27 +1,24 @@
 -- The draft of settled words is a drawing where admission accepts it; where it does not, nothing is admitted.
 -- Assumes nothing.
-use Prim.Native.Nat.{ℕ, zero, suc, _+_, _*_, _/_, _%_, _≤_, _<_}
+use Prim.Native.Nat.{ℕ, zero, suc, _+_, _*_, _≤_, _<_}
 use native.Mathlib.Omega.{arith}
-use mathlib.Core.Path.{_≡_, refl, sym, _∙_}
-use mathlib.Core.List.{List, [], _∷_}
-use mathlib.Core.Bool.{Bool, true, false, cond}
-use lib.ListN.{length, getD, List·getD-eq-default}
+use mathlib.Core.Path.{_≡_}
+use mathlib.Core.List.{List, _∷_}
+use lib.ListN.{getD, List·getD-eq-default}
 use lib.Dec.{ltb}
 use borrow.Author.Tests.{ltb-true, ltb-false}
 use Rattle.model.specs.Step.{Program}
 use Rattle.slices.proofs.Bools.{by-test}
 use Rattle.rules.specs.Demand.{Bytes}
 use Rattle.rules.specs.Grounds.{admitOf}
-use Rattle.rules.specs.Sheet.{Listing, word, described, marked, routines, entry}
-use Rattle.rules.proofs.Tests.{absurd-bool}
+use Rattle.rules.specs.Sheet.{Listing, word, described}
 use Rattle.drawings.specs.Drawn.{listed, Admitted, Drawn}
-use Rattle.drawings.specs.Reached.{Reached}
-use Rattle.drawings.specs.internal.Cells.{bit, seen, needIn, markIn}
+use Rattle.drawings.specs.internal.Cells.{seen, needIn, markIn}
 use Rattle.drawings.specs.internal.Drafts.{isEntry, rank, listFrom, lowByte, highByte, sheetFrom, sheetOf, listOf, draftOf}
 use Rattle.drawings.specs.internal.Visits.{Settled}
 use Rattle.drawings.proofs.Keeping.{Kept, kept, accepted}
 use Rattle.drawings.proofs.Weights.{bit-two, need-low, depth-low}
-use Rattle.drawings.proofs.DraftParts.{list-length, sheet-length}
+use Rattle.drawings.proofs.DraftParts.{sheet-length}
 use Rattle.drawings.proofs.Completeness.{draft-kept, few, some, described-reached, reached-described, marks-most, needs-least, ordered}
 
 -- ---- a draft is of bytes

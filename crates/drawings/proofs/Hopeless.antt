@@ -17,7 +17,7 @@ use Rattle.rules.specs.Grounds.{isJumpReg, isPopOrSwap, isReturn}
 use Rattle.rules.specs.Sheet.{Listing, routine, classAt}
 use Rattle.rules.specs.Successors.{goesOn}
 use Rattle.rules.proofs.Tests.{absurd-bool}
-use Rattle.drawings.specs.Drawn.{listed, Admitted}
+use Rattle.drawings.specs.Drawn.{listed}
 use Rattle.drawings.specs.Reached.{classIn}
 use Rattle.drawings.specs.declared.Cell.{Cell}
 use Rattle.drawings.specs.internal.Cells.{seen, cellIn}

@@ -1,24 +1,24 @@
 -- Admission's answer 0 and the rules, both ways: what base and drawing use of a listing, and what must be shown of one.
 -- Assumes nothing.
-use Prim.Native.Nat.{ℕ, zero, suc, _+_, _*_, _/_, _%_, _≤_, _<_}
+use Prim.Native.Nat.{ℕ, zero, suc, _+_, _*_, _≤_, _<_}
 use native.Mathlib.Omega.{arith}
 use mathlib.Core.Path.{_≡_, refl, sym, ap, _∙_}
 use mathlib.Core.Logic.{_≢_}
 use mathlib.Core.List.{List, [], _∷_, _++_}
-use mathlib.Core.Bool.{Bool, true, false, not, cond, _&&_, _||_}
+use mathlib.Core.Bool.{Bool, true, false, not, _&&_, _||_}
 use lib.ListN.{length, getD, List·getD-eq-default}
 use lib.Dec.{eqb, leb, ltb}
-use borrow.Author.Tests.{eqb-true, eqb-false, ltb-true, ltb-false, leb-false, not-false, eq-eqb, ne-eqb, lt-ltb, le-ltb, lt-leb}
+use borrow.Author.Tests.{eqb-true, ltb-true, ltb-false, leb-false, not-false, eq-eqb, ne-eqb, le-ltb, lt-leb}
 use Rattle.isa.specs.declared.Class.{Class}
 use Rattle.isa.specs.declared.Class.the-variants as class
 use Rattle.model.specs.Run.{testsIn}
-use Rattle.slices.proofs.Bools.{by-test, neither}
+use Rattle.slices.proofs.Bools.{by-test}
 use Rattle.slices.proofs.Checks.{none-broken, all-hold}
-use Rattle.slices.specs.Checks.{NoneBroken, Check, check, firstBroken}
-use Rattle.rules.specs.Grounds.{each, callee, isJumpReg, isPopOrSwap, isReturn, ofCall, badBanks, badSheet, badList, badBlank, badRoutine, badStart, badEntry, badSuccessor, anyBad, rulesAt, addressChecks, checks, admitOf}
+use Rattle.slices.specs.Checks.{NoneBroken, Check, check}
+use Rattle.rules.specs.Grounds.{each, callee, isPopOrSwap, isReturn, ofCall, badBanks, badList, badBlank, badRoutine, badStart, badEntry, badSuccessor, anyBad, rulesAt, addressChecks, checks, admitOf}
 use Rattle.rules.specs.Sheet.{Listing, word, described, marked, routine, depth, routines, entry, need, classAt}
 use Rattle.rules.specs.Successors.{Successor, successors, goesOn}
-use Rattle.rules.proofs.AdmittedRules.{numbered-checks, Fits, FitsAll, CallFits, Rules, EntryFits, Admitted, admitted}
+use Rattle.rules.proofs.AdmittedRules.{numbered-checks, Fits, FitsAll, Rules, EntryFits, Admitted, admitted}
 use Rattle.rules.proofs.CheckLists.{none-append, none-each}
 use Rattle.rules.proofs.Tests.{absurd-bool, and-false}
 

@@ -2,7 +2,7 @@
 -- Assumes nothing.
 use Prim.Native.Nat.{ℕ, zero, suc, _+_, _*_, _-_, _/_, _%_, _≤_, _<_}
 use native.Mathlib.Omega.{arith}
-use mathlib.Core.Path.{_≡_, refl, sym, ap, _∙_}
+use mathlib.Core.Path.{_≡_, refl, ap, _∙_}
 use mathlib.Core.List.{List, [], _∷_}
 use mathlib.Core.Bool.{Bool, true, false, not, cond, _&&_, _||_}
 use lib.ListN.{length, getD, set}
@@ -10,7 +10,7 @@ use lib.Dec.{eqb, leb, ltb}
 use borrow.Author.Tests.{ltb-false, ltb-true, leb-true, leb-false, lt-ltb}
 use Rattle.slices.proofs.Bools.{by-test, both}
 use Rattle.drawings.specs.declared.Cell.{Cell}
-use Rattle.drawings.specs.internal.Cells.{cell, bit, packed, seen, needIn, depthIn, entryIn, markIn, cellIn, larger, joined, merged, has, weight, total}
+use Rattle.drawings.specs.internal.Cells.{bit, packed, seen, needIn, depthIn, entryIn, markIn, cellIn, larger, joined, merged, has, weight, total}
 
 -- ---- what is read back from a word
 

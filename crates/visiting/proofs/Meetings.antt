@@ -1,15 +1,15 @@
 -- Demands met one after the other, and what one demand may be called.
 -- Assumes nothing.
-use Prim.Native.Nat.{ℕ, _+_, _*_, _%_}
+use Prim.Native.Nat.{ℕ, _+_, _%_}
 use native.Mathlib.Omega.{arith}
-use mathlib.Core.Path.{_≡_, refl, sym, ap, _∙_, subst}
+use mathlib.Core.Path.{_≡_, refl, sym, ap, _∙_}
 use mathlib.Core.List.{List, [], _∷_, _++_}
-use mathlib.Core.Bool.{Bool, true, false, not, cond, _||_}
+use mathlib.Core.Bool.{Bool, true, false, cond, _||_}
 use lib.ListN.{length, getD, set}
 use Rattle.rules.proofs.Tests.{absurd-bool}
-use Rattle.slices.proofs.Bools.{by-test, neither}
+use Rattle.slices.proofs.Bools.{by-test}
 use Rattle.drawings.specs.declared.Cell.{Cell}
-use Rattle.drawings.specs.internal.Cells.{cell, packed, seen, cellIn, joined, merged, has, total, Progress}
+use Rattle.drawings.specs.internal.Cells.{cell, packed, seen, merged, has, Progress}
 use Rattle.drawings.specs.internal.Demands.{Demand, demand}
 use Rattle.drawings.specs.internal.Visits.{met, meet, meetAll, anyOpen, Meets}
 

@@ -8,7 +8,7 @@ use drawings::Cell;
 use isa::Class;
 use slices::load;
 use std::num::wrapping_add_u8;
-ghost use Prim.Native.Nat.{_+_, _-_, _%_};
+ghost use Prim.Native.Nat.{_+_, _-_};
 ghost use mathlib.Core.Path.{_≡_};
 ghost use lib.ListN.{length, getD};
 ghost use Rattle.rules.specs.Successors.{successors};

@@ -1,9 +1,7 @@
 -- The word had what is asked, or it has it now.
 -- Assumes nothing.
-use mathlib.Core.Path.{_≡_, sym, ap, subst, _∙_}
+use mathlib.Core.Path.{sym, ap, _∙_}
 use Prim.Native.Nat.{ℕ}
-use lib.ListN.{set}
-use native.Mathlib.Omega.{arith}
 use Rattle.drawings.specs.internal.Cells.{has}
 use Rattle.cells.proofs.Meeting.{met-already, met-now}
 use borrow.Author.Needs.{needs}

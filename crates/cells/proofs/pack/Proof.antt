@@ -1,9 +1,9 @@
 -- Each number is a byte, so it is its remainder.
 -- Assumes nothing.
-use mathlib.Core.Path.{_≡_, sym, ap}
+use mathlib.Core.Path.{_≡_}
 use Prim.Native.Nat.{ℕ, _%_, _<_}
 use native.Mathlib.Omega.{arith}
-use Rattle.drawings.specs.internal.Cells.{bit, packed}
+use Rattle.drawings.specs.internal.Cells.{packed}
 use borrow.Author.Needs.{needs}
 use Rattle.cells.proofs.pack.Statement.{statement}
 use Rattle.cells.proofs.pack.Tie as tie

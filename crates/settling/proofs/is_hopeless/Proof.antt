@@ -2,7 +2,6 @@
 -- Assumes nothing.
 use Prim.Native.Nat.{_-_, _≤_}
 use native.Mathlib.Omega.{arith}
-use Rattle.drawings.specs.internal.Impossible.{Refutes}
 use Rattle.settling.proofs.Hindrances.{refutes-nothing}
 use Rattle.settling.proofs.is_hopeless.Statement.{statement}
 use Rattle.settling.proofs.is_hopeless.Tie as tie

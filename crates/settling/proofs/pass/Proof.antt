@@ -1,6 +1,6 @@
 -- Each address comes once, whichever way; what is answered false has changed nothing.
 -- Assumes nothing.
-use Prim.Native.Nat.{ℕ, _-_}
+use Prim.Native.Nat.{_-_}
 use native.Mathlib.Omega.{arith}
 use mathlib.Core.Path.{sym, _∙_}
 use Rattle.drawings.specs.Reached.{banks}

@@ -1,12 +1,10 @@
 -- By what settling tells, and the number of routines.
 -- Assumes nothing.
 use borrow.Author.Tests.{not-true, not-false}
-use lib.ListN.{length}
-use mathlib.Core.Path.{refl, sym, subst}
-use Rattle.draw.proofs.Outcomes.{first-words, not-settled, too-many, drafted}
+use Rattle.judging.proofs.Judgements.{first-words, not-settled, too-many, drafted}
 use borrow.Author.Needs.{needs}
-use Rattle.draw.proofs.draft.Statement.{statement}
-use Rattle.draw.proofs.draft.Tie as tie
+use Rattle.judging.proofs.draft.Statement.{statement}
+use Rattle.judging.proofs.draft.Tie as tie
 
 pub draft-spec : {M : Type 1} → statement M
 draft-spec =
