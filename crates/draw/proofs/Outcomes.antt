@@ -7,15 +7,24 @@ use mathlib.Core.List.{List}
 use mathlib.Core.Bool.{Bool, true, false}
 use lib.ListN.{length}
 use borrow.Author.Tests.{eqb-true, not-false}
-use Rattle.slices.proofs.Checks.{none-broken}
+use Rattle.slices.proofs.Checks.{Numbered, none-broken, first-violation}
+use Rattle.slices.specs.Checks.{FirstViolation}
 use Rattle.drawings.specs.Drawn.{Lent, Outcome, outcome, sizeChecks, sizeFault, refused, Draws, bad-size, none-admitted, draws, DrawnAs}
 use Rattle.drawings.proofs.OneDrawing.{draws-one}
 use Rattle.judging.specs.internal.Judging.{Judged}
 
+-- each check of a size has a number
+numbered : (c : Lent) → Numbered (sizeChecks c)
+numbered c = (omega arith, (omega arith, (omega arith, tt)))
+
+first-size : (c : Lent) → FirstViolation (sizeChecks c) (sizeFault c)
+unfolding sizeFault
+first-size c = first-violation (sizeChecks c) (numbered c)
+
 sized : (c : Lent) → sizeFault c ≡ 0 → (length (c .sheet) ≡ 512) × (length (c .list) ≡ 128)
 unfolding sizeFault
 sized c e =
-    let n = none-broken (sizeChecks c) (omega arith, (omega arith, (omega arith, tt))) e in
+    let n = none-broken (sizeChecks c) (numbered c) e in
     (eqb-true _ _ (not-false _ (n .1 .0)), eqb-true _ _ (not-false _ (n .1 .1 .0)))
 
 -- a buffer lent is as long as the one that is copied into it
@@ -26,7 +35,7 @@ pub list-fits : (c : Lent) {n k : ℕ} → n ≡ sizeFault c → n ≡ 0 → k �
 list-fits c e z l = sized c (sym e ∙ z) .1 ∙ sym l
 
 promised : {c : Lent} {o : Outcome} → Draws c o → DrawnAs c o
-promised {c} {o} d = record { draws-it = d; only-one = λ o′ d′. draws-one c o o′ d d′ }
+promised {c} {o} d = record { draws-it = d; first-size = first-size c; only-one = λ o′ d′. draws-one c o o′ d d′ }
 
 pub size-refused : (c : Lent) (n : ℕ) → n ≡ sizeFault c → (n ≡ 0 → ⊥) → DrawnAs c (refused n c)
 size-refused c n e h = rw e (promised (bad-size (λ z. h (e ∙ z))))

@@ -6,7 +6,7 @@ use mathlib.Core.Bool.{true, not}
 use mathlib.Core.List.{List, [], _∷_}
 use lib.Dec.{eqb}
 use lib.ListN.{length}
-use Rattle.slices.specs.Checks.{Check, check, firstBroken}
+use Rattle.slices.specs.Checks.{Check, check, firstBroken, FirstViolation}
 use Rattle.slices.specs.Parts.{padded}
 use Rattle.model.specs.Step.{Program}
 use Rattle.rules.specs.Demand.{Bytes}
@@ -98,5 +98,7 @@ pub data Draws (c : Lent) : Outcome → Type 0 where
 -- THE PROMISE of a call and its outcome
 pub record DrawnAs (c : Lent) (o : Outcome) : Type 0 where
   pub draws-it : Draws c o
+  -- the first of 1, 2 and 3 that applies
+  pub first-size : FirstViolation (sizeChecks c) (sizeFault c)
   -- the answer and both buffers are determined: there is one drawing at most
   pub only-one : (o′ : Outcome) → Draws c o′ → o′ ≡ o
