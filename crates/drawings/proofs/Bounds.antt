@@ -1,5 +1,5 @@
 -- Every admitted sheet and list bounds the words from above: a word says no more than it must. By induction on the visits; the one place
--- where the rules of the admitted listing are used is `demands-below`.
+-- where the rules of the admitted listing are used is `demands-allowed`.
 -- Assumes nothing.
 use Prim.Native.Nat.{ℕ, zero, suc, _+_, _*_, _≤_, _<_, zero-le}
 use native.Mathlib.Omega.{arith}

@@ -23,7 +23,7 @@ pub data Among (x : Successor) : List Successor → Type 0 where
   first : {xs : List Successor} → Among x (x ∷ xs)
   later : {y : Successor} {xs : List Successor} → Among x xs → Among x (y ∷ xs)
 
--- the successors of an address are the same whatever its depth d, and whether V is marked there (v) or not
+-- the addresses of the successors are the same at any depth d, and with V marked (v) or not
 pub data Reached (p : Program) : ℕ → Type 0 where
   at-start : Reached p 0
   by-successor :
