@@ -34,14 +34,14 @@ pub fn number_routines(cells: &[u32], numbers: &mut [u8]) -> usize
     requires { ⌜ length (now numbers) ≡ bankSize ⌝ }
     ensures { λ r. ⌜ (r ≡ rank (now (cells .entry)) bankSize) × (r ≤ bankSize) × (now (numbers .exit) ≡ numbersOf (now (cells .entry))) ⌝ }
 {
-    let mut n: usize = 0;
+    let mut routines: usize = 0;
     let mut a: usize = 0;
     while a < BANK_SIZE {
-        numbers[a] = (n % 64) as u8;
-        n = count_entry(cells, a as u8, n);
+        numbers[a] = (routines % 64) as u8;
+        routines = count_entry(cells, a as u8, routines);
         a += 1;
     }
-    n
+    routines
 }
 
 // The high byte of a described address: V's mark and the routine's number.
