@@ -9,8 +9,9 @@ ghost use Rattle.drawings.specs.internal.Cells.{bit, packed, cellIn, larger, jo
 ghost use Rattle.drawings.specs.internal.Demands.{demand, entryCell};
 ghost use Rattle.drawings.specs.internal.Visits.{Meets};
 
-// The word of address 0 at the beginning: the entry of its routine, with no need yet.
-pub const ENTRY_0: u32 = 33554432;
+// What a word has more where its address is reached. Alone it is the word of address 0 at the
+// beginning: the entry of its own routine, with no need yet.
+pub const REACHED: u32 = 33554432;
 
 // The word of an address; 0 if it is not reached.
 pub fn word_of(cells: &[u32], a: u8) -> u32
@@ -51,7 +52,7 @@ fn pack(c: Cell) -> u32
     ensures { λ r. ⌜ r ≡ packed c ⌝ }
 {
     let numbers = (c.need as u32) + 256 * (c.depth as u32) + 65536 * (c.entry as u32);
-    numbers + 16777216 * bit_of(c.mark) + 33554432
+    numbers + 16777216 * bit_of(c.mark) + REACHED
 }
 
 // The cell of an entry with this need.

@@ -10,6 +10,9 @@ ghost use Rattle.drawings.specs.internal.Cells.{bit};
 ghost use Rattle.drawings.specs.internal.Drafts.{isEntry, rank, lowByte, highByte, sheetOf, listOf};
 ghost use Rattle.drafting.specs.internal.Writing.{numbersOf, rankAfter, listAfter};
 
+// The most routines of a list; a sheet word has six bits for a routine's number.
+pub const MAX_ROUTINES: usize = 64;
+
 // The two bytes of an address on the sheet, the low one first.
 struct Word(u8, u8);
 
@@ -37,7 +40,7 @@ pub fn number_routines(cells: &[u32], numbers: &mut [u8]) -> usize
     let mut routines: usize = 0;
     let mut a: usize = 0;
     while a < BANK_SIZE {
-        numbers[a] = (routines % 64) as u8;
+        numbers[a] = (routines % MAX_ROUTINES) as u8;
         routines = count_entry(cells, a as u8, routines);
         a += 1;
     }

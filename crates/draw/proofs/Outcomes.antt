@@ -1,25 +1,15 @@
 -- From the sizes and the judgement to the outcome of a call.
 -- Assumes nothing.
 use Prim.Native.Nat.{ℕ}
-use native.Mathlib.Omega.{arith}
 use mathlib.Core.Path.{_≡_, sym, _∙_}
 use mathlib.Core.List.{List}
 use mathlib.Core.Bool.{Bool, true, false}
 use lib.ListN.{length}
 use borrow.Author.Tests.{eqb-true, not-false}
-use Rattle.slices.proofs.Checks.{Numbered, none-broken, first-violation}
-use Rattle.slices.specs.Checks.{FirstViolation}
-use Rattle.drawings.specs.Drawn.{Lent, Outcome, outcome, sizeChecks, sizeFault, refused, Draws, bad-size, none-admitted, draws, DrawnAs}
-use Rattle.drawings.proofs.OneDrawing.{draws-one}
+use Rattle.slices.proofs.Checks.{none-broken}
+use Rattle.drawings.specs.Drawn.{Lent, outcome, sizeChecks, sizeFault, refused, bad-size, none-admitted, draws, DrawnAs}
+use Rattle.drawings.proofs.Promises.{numbered, promised}
 use Rattle.judging.specs.internal.Judging.{Judged}
-
--- each check of a size has a number
-numbered : (c : Lent) → Numbered (sizeChecks c)
-numbered c = (omega arith, (omega arith, (omega arith, tt)))
-
-first-size : (c : Lent) → FirstViolation (sizeChecks c) (sizeFault c)
-unfolding sizeFault
-first-size c = first-violation (sizeChecks c) (numbered c)
 
 sized : (c : Lent) → sizeFault c ≡ 0 → (length (c .sheet) ≡ 512) × (length (c .list) ≡ 128)
 unfolding sizeFault
@@ -33,9 +23,6 @@ sheet-fits c e z l = sized c (sym e ∙ z) .0 ∙ sym l
 
 pub list-fits : (c : Lent) {n k : ℕ} → n ≡ sizeFault c → n ≡ 0 → k ≡ 128 → length (c .list) ≡ k
 list-fits c e z l = sized c (sym e ∙ z) .1 ∙ sym l
-
-promised : {c : Lent} {o : Outcome} → Draws c o → DrawnAs c o
-promised {c} {o} d = record { draws-it = d; first-size = first-size c; only-one = λ o′ d′. draws-one c o o′ d d′ }
 
 pub size-refused : (c : Lent) (n : ℕ) → n ≡ sizeFault c → (n ≡ 0 → ⊥) → DrawnAs c (refused n c)
 size-refused c n e h = rw e (promised (bad-size (λ z. h (e ∙ z))))

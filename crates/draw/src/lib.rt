@@ -25,8 +25,8 @@ fn sizes(opcodes: &[u8], arguments: &[u8], sheet: &[u8], list: &[u8]) -> u8
     0
 }
 
-// The sheet and the list of two banks are drawn into the buffers, all of both; or the number of a
-// refusal that leaves them as they were.
+// 0 and the number of routines, with the sheet and the list of two banks drawn into the buffers,
+// all of both; or the number of a refusal and 0, with both as they were.
 #[no_mangle]
 pub extern "C" fn cesca_draw(
     opcodes: &[u8],
@@ -40,8 +40,8 @@ pub extern "C" fn cesca_draw(
     if fault != 0 {
         return Drawing(fault, 0);
     }
-    let mut drawn_sheet = [0u8; 512];
-    let mut drawn_list = [0u8; 128];
+    let mut drawn_sheet = [0u8; SHEET_SIZE];
+    let mut drawn_list = [0u8; MAX_LIST_SIZE];
     let n = judging::draft(opcodes, arguments, &mut drawn_sheet, &mut drawn_list);
     if !judging::is_admitted(opcodes, arguments, &drawn_sheet, &drawn_list, n) {
         return Drawing(27, 0);

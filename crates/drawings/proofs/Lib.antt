@@ -9,4 +9,5 @@ pub mod Drafted
 pub mod Hopeless
 pub mod Keeping
 pub mod OneDrawing
+pub mod Promises
 pub mod Weights

@@ -1,6 +1,7 @@
 -- The words of the drawing: what is read back from a cell's word, and the weight that falls whenever a demand is not met.
 -- Assumes nothing.
 use Prim.Native.Nat.{ℕ, zero, suc, _+_, _*_, _-_, _/_, _%_, _≤_, _<_}
+use native.Mathlib.Nat.{pos-of-ne-zero}
 use native.Mathlib.Omega.{arith}
 use mathlib.Core.Path.{_≡_, refl, ap, _∙_}
 use mathlib.Core.List.{List, [], _∷_}
@@ -88,6 +89,10 @@ zero-unseen = refl
 pub unseen-zero : (w : ℕ) → seen w ≡ false → w ≡ 0
 unfolding seen
 unseen-zero w e = let h = ltb-false 0 w e in omega arith
+
+pub word-seen : (w : ℕ) → (w ≡ 0 → ⊥) → seen w ≡ true
+unfolding seen
+word-seen w h = lt-ltb 0 w (pos-of-ne-zero h)
 
 pub need-low : (w : ℕ) → needIn w < 256
 unfolding needIn

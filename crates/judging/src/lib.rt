@@ -1,4 +1,6 @@
 // A draft of what two banks give, and whether admission accepts it.
+use drafting::MAX_ROUTINES;
+use slices::BANK_SIZE;
 use slices::part;
 ghost use mathlib.Core.Path.{_≡_};
 ghost use lib.ListN.{length, replicate};
@@ -6,20 +8,17 @@ ghost use Rattle.rules.specs.Grounds.{sheetSize, maxListSize};
 ghost use Rattle.drawings.specs.Reached.{banks};
 ghost use Rattle.judging.specs.internal.Judging.{Drafted, Judged};
 
-// The most routines of a list.
-const MAX_ROUTINES: usize = 64;
-
 // A draft of the sheet and the list, and its routines; 0 routines where nothing can be admitted.
 pub fn draft(opcodes: &[u8], arguments: &[u8], sheet: &mut [u8], list: &mut [u8]) -> usize
     requires { ⌜ (length (now sheet) ≡ sheetSize) × (now list ≡ replicate maxListSize 0) ⌝ }
     ensures { λ n. ⌜ Drafted (banks (now (opcodes .entry)) (now (arguments .entry))) (now (sheet .exit)) (now (list .exit)) n ⌝ }
 {
-    let mut cells = [0u32; 256];
-    cells[0] = cells::ENTRY_0;
+    let mut cells = [0u32; BANK_SIZE];
+    cells[0] = cells::REACHED;
     if !settling::settle(opcodes, arguments, &mut cells) {
         return 0;
     }
-    let mut numbers = [0u8; 256];
+    let mut numbers = [0u8; BANK_SIZE];
     let n = drafting::number_routines(&cells, &mut numbers);
     if MAX_ROUTINES < n {
         return 0;

@@ -1,29 +1,28 @@
 -- Impossible addresses: the tests by class, and what one of them tells.
 -- Assumes nothing.
 use Prim.Native.Nat.{ℕ}
-use native.Mathlib.Nat.{pos-of-ne-zero}
 use mathlib.Core.Path.{_≡_, refl, sym, ap, _∙_}
 use mathlib.Core.List.{List}
 use mathlib.Core.Bool.{Bool, true, false, _&&_, _||_}
 use lib.ListN.{getD}
-use borrow.Author.Tests.{lt-ltb}
 use Rattle.isa.specs.declared.Class.{Class}
 use Rattle.model.specs.Step.{Program}
 use Rattle.rules.proofs.Tests.{absurd-bool}
 use Rattle.drawings.specs.Reached.{classIn}
 use Rattle.drawings.specs.declared.Cell.{Cell}
-use Rattle.drawings.specs.internal.Cells.{seen, cellIn}
+use Rattle.drawings.specs.internal.Cells.{cellIn}
 use Rattle.drawings.specs.internal.Impossible.{impossible, Refutes}
 use Rattle.drawings.specs.internal.Visits.{Visits}
 use Rattle.drawings.proofs.Hopeless.{hopeless}
+use Rattle.drawings.proofs.Weights.{word-seen}
 
 pub and-true : (x : Bool) → x && true ≡ x
 and-true true = refl
 and-true false = refl
 
-pub and-false : (x : Bool) → x && false ≡ false
-and-false true = refl
-and-false false = refl
+pub and-off : (x : Bool) → x && false ≡ false
+and-off true = refl
+and-off false = refl
 
 pub or-false : (x : Bool) → x || false ≡ x
 or-false true = refl
@@ -31,10 +30,6 @@ or-false false = refl
 
 pub refutes-nothing : {p : Program} → Refutes p false
 refutes-nothing = record { none = λ e. absurd-bool (sym e) }
-
-word-seen : (w : ℕ) → (w ≡ 0 → ⊥) → seen w ≡ true
-unfolding seen
-word-seen w h = lt-ltb 0 w (pos-of-ne-zero h)
 
 pub hindered :
     (p : Program) (ws : List ℕ) (a : ℕ) (k : Class) (c : Cell) (r : Bool) → Visits p ws → (getD ws a 0 ≡ 0 → ⊥) → k ≡ classIn p a

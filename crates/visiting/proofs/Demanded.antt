@@ -5,8 +5,6 @@ use mathlib.Core.Path.{_≡_, refl, sym, ap, _∙_, subst}
 use mathlib.Core.List.{List, [], _∷_}
 use mathlib.Core.Bool.{Bool, true, false, _||_}
 use lib.ListN.{length, getD}
-use borrow.Author.Tests.{lt-ltb}
-use native.Mathlib.Nat.{pos-of-ne-zero}
 use Rattle.isa.specs.declared.Class.{Class}
 use Rattle.model.specs.Step.{Program}
 use Rattle.rules.specs.Successors.{successors}
@@ -15,16 +13,12 @@ use Rattle.drawings.specs.declared.Cell.{Cell}
 use Rattle.drawings.specs.internal.Cells.{seen, needIn, cellIn}
 use Rattle.drawings.specs.internal.Demands.{Demand, demand, demandsOf, entryCell, roomOf, capped, targetOf, called, following, demandsAt}
 use Rattle.drawings.specs.internal.Visits.{Meets}
-use Rattle.drawings.proofs.Weights.{zero-unseen}
+use Rattle.drawings.proofs.Weights.{zero-unseen, word-seen}
 use Rattle.visiting.proofs.Meetings.{met-none, met-both, met-as}
 
 pub not-reached : (p : Program) (ws : List ℕ) (a : ℕ) → length ws ≡ 256 → getD ws a 0 ≡ 0 → Meets ws ws (demandsAt p ws a) false
 unfolding demandsAt
 not-reached p ws a l z = rw (z, zero-unseen) (met-none ws l)
-
-word-seen : (w : ℕ) → (w ≡ 0 → ⊥) → seen w ≡ true
-unfolding seen
-word-seen w h = lt-ltb 0 w (pos-of-ne-zero h)
 
 demands-are :
     (p : Program) (ws : List ℕ) (a : ℕ) → seen (getD ws a 0) ≡ true

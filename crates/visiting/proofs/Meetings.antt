@@ -64,10 +64,6 @@ merged-wrapped : (w e d n : ℕ) (v : Bool) → merged w (cell e (d % 256) v n) 
 unfolding merged packed
 merged-wrapped w e d n v = by-test (seen w) (λ q. rw q) (λ q. rw (q, twice d))
 
-has-wrapped : (w e d n : ℕ) (v : Bool) → has w (cell e (d % 256) v n) ≡ has w (cell e d v n)
-unfolding has
-has-wrapped w e d n v = refl
-
 pub met-wrapped :
     {ws ws′ : List ℕ} {a e d n : ℕ} {v r : Bool} → Meets ws ws′ (demand a (cell e (d % 256) v n) ∷ []) r
     → Meets ws ws′ (demand a (cell e d v n) ∷ []) r
