@@ -3,6 +3,7 @@
 use crate::calls::{admit, decode};
 use crate::draw::draw;
 use crate::explain::explained;
+use crate::text::bytes;
 use crate::{Admitted, Routine, SheetWord};
 use cesca_types::{Drawing, Fields, Refusal, BANK, MOST_LIST, SHEET};
 
@@ -30,7 +31,7 @@ impl Listing {
             return Err(refusal(1, words + ", not 256 of each"));
         };
         let Ok(sheet) = sheet.try_into() else {
-            return Err(refusal(2, format!("the sheet has {} bytes, not 512", sheet.len())));
+            return Err(refusal(2, format!("the sheet has {}, not 512", bytes(sheet.len()))));
         };
         Listing::from_parts(opcodes, arguments, sheet, list)
     }
@@ -46,7 +47,7 @@ impl Listing {
     ) -> Result<Listing, Refusal> {
         let (routines, rest) = list.as_chunks();
         if !rest.is_empty() || routines.is_empty() || list.len() > MOST_LIST {
-            let words = format!("the routine list has {} bytes", list.len());
+            let words = format!("the routine list has {}", bytes(list.len()));
             return Err(refusal(3, words + ", not an even number from 2 to 128"));
         }
         let routines = routines.iter().map(|[entry, need]| Routine { entry: *entry, need: *need });

@@ -1,5 +1,6 @@
 //! Instructions and listings as text.
 
+mod count;
 mod draft;
 mod error;
 mod instruction;
@@ -8,5 +9,6 @@ mod numbers;
 #[cfg(test)]
 mod tests;
 
+pub use count::bytes;
 pub use error::TextError;
 pub use instruction::{instruction_text, mnemonic};

@@ -16,6 +16,7 @@ mod tests;
 mod usage;
 
 use super::SourceRefusal;
+use crate::text::bytes;
 use cesca_types::BANK;
 use quote::quoted;
 
@@ -46,7 +47,7 @@ fn words(refusal: &SourceRefusal, text: &[u8], banks: [usize; 2]) -> Option<Stri
 fn bank(banks: [usize; 2]) -> Option<String> {
     let mut named = ["opcodes", "arguments"].into_iter().zip(banks);
     let (name, length) = named.find(|(_, length)| *length != BANK)?;
-    Some(format!("the bank of {name} has {length} bytes, not {BANK}"))
+    Some(format!("the bank of {name} has {}, not {BANK}", bytes(length)))
 }
 
 /// The lines of a text, without their line feeds.

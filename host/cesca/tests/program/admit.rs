@@ -68,9 +68,9 @@ fn lengths_that_no_listing_has() {
     let opcodes = |opcodes: usize, arguments: usize| {
         format!("1 at 0: there are {opcodes} opcodes and {arguments} arguments, not 256 of each")
     };
-    let sheet = |bytes: usize| format!("2 at 0: the sheet has {bytes} bytes, not 512");
-    let list = |bytes: usize| {
-        format!("3 at 0: the routine list has {bytes} bytes, not an even number from 2 to 128")
+    let sheet = |bytes: &str| format!("2 at 0: the sheet has {bytes}, not 512");
+    let list = |bytes: &str| {
+        format!("3 at 0: the routine list has {bytes}, not an even number from 2 to 128")
     };
     let long = || "3 at 0: the routine list has more than 128 bytes".to_string();
     let undescribed = "7 at 0: routine 0 begins at 0, which is not described".to_string();
@@ -78,11 +78,12 @@ fn lengths_that_no_listing_has() {
         (0, opcodes(0, 0)),
         (255, opcodes(255, 0)),
         (511, opcodes(256, 255)),
-        (512, sheet(0)),
-        (1023, sheet(511)),
-        (1024, list(0)),
-        (1025, list(1)),
-        (1151, list(127)),
+        (512, sheet("0 bytes")),
+        (513, sheet("1 byte")),
+        (1023, sheet("511 bytes")),
+        (1024, list("0 bytes")),
+        (1025, list("1 byte")),
+        (1151, list("127 bytes")),
         (1152, undescribed),
         (1153, long()),
         (1154, long()),

@@ -81,7 +81,7 @@ fn files_that_are_neither_banks_nor_a_listing() {
     let longer = "it is longer than banks and no listing:";
     let list = "not an even number from 2 to 128";
     for (length, told) in [
-        (513, format!("2 at 0: {longer} the sheet has 1 bytes, not 512")),
+        (513, format!("2 at 0: {longer} the sheet has 1 byte, not 512")),
         (1023, format!("2 at 0: {longer} the sheet has 511 bytes, not 512")),
         (1024, format!("3 at 0: {longer} the routine list has 0 bytes, {list}")),
         (1027, format!("3 at 0: {longer} the routine list has 3 bytes, {list}")),
