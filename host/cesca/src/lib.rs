@@ -131,6 +131,7 @@ mod board;
 mod calls;
 mod draw;
 mod explain;
+mod instruction;
 mod listing;
 mod raw;
 #[cfg(test)]

@@ -1,19 +1,17 @@
 //! One described address and its instruction: 8 to 15.
 
-use crate::calls::facts;
-use crate::text::mnemonic;
+use crate::instruction::Instruction;
+use crate::text::bytes;
 use crate::{Listing, SheetWord};
-use cesca_types::{Class, Facts, Fields};
+use cesca_types::Class;
 
 /// A described address with all that the rules ask about it.
 pub struct Address<'a> {
     pub listing: &'a Listing,
-    pub at: u8,
     pub word: SheetWord,
     /// The need of the word's routine.
     need: u8,
-    pub fields: Fields,
-    pub facts: Facts,
+    pub instruction: Instruction,
 }
 
 impl<'a> Address<'a> {
@@ -21,9 +19,8 @@ impl<'a> Address<'a> {
     pub fn described(listing: &'a Listing, at: u8) -> Option<Address<'a>> {
         let word = listing.sheet_word(at);
         let need = listing.routines().get(usize::from(word.routine))?.need;
-        let fields = listing.instruction(at);
-        let address = Address { listing, at, word, need, fields, facts: facts(fields) };
-        word.described.then_some(address)
+        let instruction = Instruction::new(at, listing.instruction(at));
+        word.described.then_some(Address { listing, word, need, instruction })
     }
 
     /// What is wrong here, if it is what the number stands for.
@@ -34,22 +31,12 @@ impl<'a> Address<'a> {
             10 => self.test(),
             11 => self.pop_or_swap(),
             12 => self.ret(),
-            13 => self.end(),
+            13 => self.instruction.past_the_end(),
             14 => self.call_of_none(),
             15 => self.call_over_need(),
             16 => self.successor(),
             _ => None,
         }
-    }
-
-    /// The mnemonic of the instruction.
-    pub fn mnemonic(&self) -> String {
-        mnemonic(self.fields)
-    }
-
-    /// Whether the next word is a successor.
-    pub fn goes_on(&self) -> bool {
-        !matches!(self.facts.class, Class::Halt | Class::Return | Class::Jump)
     }
 
     /// 8: a depth over the need.
@@ -61,25 +48,25 @@ impl<'a> Address<'a> {
 
     /// 9: a jump to a register.
     fn jump_by_register(&self) -> Option<String> {
-        let jumps = self.facts.class == Class::JumpRegister;
-        jumps.then(|| format!("jmp R{} could go anywhere", self.fields.a))
+        let jumps = self.instruction.facts.class == Class::JumpRegister;
+        jumps.then(|| format!("jmp R{} could go anywhere", self.instruction.fields.a))
     }
 
     /// 10: a test of V without a mark.
     fn test(&self) -> Option<String> {
-        let name = self.mnemonic();
-        (self.facts.tests && !self.word.settled)
+        let name = self.instruction.mnemonic();
+        (self.instruction.facts.tests && !self.word.settled)
             .then(|| format!("{name} tests V, which the sheet doesn't mark as settled"))
     }
 
     /// 11: pop or swap of what isn't the routine's own.
     fn pop_or_swap(&self) -> Option<String> {
-        let reach = match self.facts.class {
+        let reach = match self.instruction.facts.class {
             Class::Pop => "take",
             Class::Swap => "exchange",
             _ => return None,
         };
-        let name = self.mnemonic();
+        let name = self.instruction.mnemonic();
         (self.word.depth == 0).then(|| match self.word.routine {
             0 => format!("{name} at depth 0 of routine 0, where nothing is on the stack"),
             _ => format!("{name} at depth 0 would {reach} the return address"),
@@ -89,7 +76,7 @@ impl<'a> Address<'a> {
     /// 12: ret to nowhere.
     fn ret(&self) -> Option<String> {
         let SheetWord { routine, depth, .. } = self.word;
-        match (self.facts.class, routine, depth) {
+        match (self.instruction.facts.class, routine, depth) {
             (Class::Return, 0, _) => Some("ret in routine 0".to_string()),
             (Class::Return, _, 1..) => {
                 let left = bytes(depth.into());
@@ -99,37 +86,20 @@ impl<'a> Address<'a> {
         }
     }
 
-    /// 13: going on where there is no next word.
-    fn end(&self) -> Option<String> {
-        let when = match self.facts.class {
-            Class::Branch => " if it isn't taken",
-            Class::Call => " after its return",
-            _ => "",
-        };
-        let name = self.mnemonic();
-        (self.at == u8::MAX && self.goes_on())
-            .then(|| format!("{name} would go on past address 255{when}"))
-    }
-
     /// 14: a call of an address that is no routine's.
     fn call_of_none(&self) -> Option<String> {
-        let target = self.called()?;
+        let target = self.instruction.called()?;
         let none = self.need_of(target).is_none();
         none.then(|| format!("call {target}, where no routine begins"))
     }
 
     /// 15: a call for which too little is left.
     fn call_over_need(&self) -> Option<String> {
-        let wanted = 1 + u16::from(self.need_of(self.called()?)?);
+        let wanted = 1 + usize::from(self.need_of(self.instruction.called()?)?);
         let (left, routine) = (self.need.checked_sub(self.word.depth)?, self.word.routine);
         let wanting = bytes(wanted);
-        (wanted > u16::from(left))
+        (wanted > usize::from(left))
             .then(|| format!("the call needs {wanting} where routine {routine} has {left} left"))
-    }
-
-    /// The address that a call goes to.
-    fn called(&self) -> Option<u8> {
-        (self.facts.class == Class::Call).then_some(self.facts.operand)
     }
 
     /// The need of the routine that begins at an address.
@@ -137,9 +107,4 @@ impl<'a> Address<'a> {
         let mut routines = self.listing.routines().iter();
         routines.find(|routine| routine.entry == entry).map(|routine| routine.need)
     }
-}
-
-/// So many bytes, in words.
-fn bytes(number: u16) -> String {
-    format!("{number} {}", if number == 1 { "byte" } else { "bytes" })
 }
