@@ -70,7 +70,7 @@ fn what_is_typed_prints_what_is_shown() {
         symlink(root().join(name), sandbox.path(name)).expect("a link");
     }
     let sessions = sessions(section);
-    assert!(sessions.len() >= 13, "only {} sessions are seen", sessions.len());
+    assert!(sessions.len() >= 15, "only {} sessions are seen", sessions.len());
     for (typed, shown) in sessions {
         assert_eq!(printed(&sandbox, &typed), shown, "{typed}");
     }
