@@ -1,13 +1,18 @@
 //! Sheets and routine lists drawn for banks: the proved drawer.
 
+mod explain;
+
 use crate::raw::draw::cesca_draw;
+use crate::text::bytes;
 use cesca_types::{Drawing, Refusal, BANK, MOST_LIST, SHEET};
+use explain::explained;
 
 /// The sheet and the routine list drawn for these banks, or the first ground that refuses it.
 ///
 /// The sheet describes what successors and calls reach from address 0, and marks V wherever some
 /// admitted sheet could mark it. Routines are numbered by their entry addresses. Each need is the
 /// least that any admitted sheet gives the routine with that entry. What is drawn is admitted.
+/// Where no sheet and list at all would be admitted (27), the refusal tells what stands in the way.
 ///
 /// ```
 /// # fn main() -> Result<(), Box<dyn std::error::Error>> {
@@ -19,14 +24,15 @@ use cesca_types::{Drawing, Refusal, BANK, MOST_LIST, SHEET};
 ///
 /// let endless = cesca::assemble(b"loop: push R0\njmp loop\n")?;
 /// let refusal = cesca::draw(&endless.opcodes, &endless.arguments).unwrap_err();
-/// let words = "27: no sheet and list at all would be admitted with these banks";
-/// assert_eq!(refusal.to_string(), words);
+/// let reason = "address 0 is reached at depth 0 and, by jmp at 1, at depth 1";
+/// assert!(refusal.number() == 27 && refusal.words().ends_with(reason));
 /// # Ok(())
 /// # }
 /// ```
 pub fn draw(opcodes: &[u8], arguments: &[u8]) -> Result<Drawing, Refusal> {
     let (mut sheet, mut list) = ([0; SHEET], [0; MOST_LIST]);
-    let routines = draw_into(opcodes, arguments, &mut sheet, &mut list)?;
+    let routines = draw_into(opcodes, arguments, &mut sheet, &mut list);
+    let routines = routines.map_err(|refusal| explained(refusal, opcodes, arguments))?;
     Ok(Drawing { sheet, list: list[..2 * routines].to_vec() })
 }
 
@@ -35,7 +41,8 @@ pub fn draw(opcodes: &[u8], arguments: &[u8]) -> Result<Drawing, Refusal> {
 ///
 /// A refusal leaves both buffers as they were: first banks that aren't of 256 bytes (1), then a
 /// sheet buffer that isn't of 512 (2), then a list buffer that isn't of 128 (3), then banks with
-/// which no sheet and list at all would be admitted (27).
+/// which no sheet and list at all would be admitted (27). What stands in the way of them takes time
+/// to find, so [`draw`] alone tells it.
 pub fn draw_into(
     opcodes: &[u8],
     arguments: &[u8],
@@ -43,7 +50,7 @@ pub fn draw_into(
     list: &mut [u8],
 ) -> Result<usize, Refusal> {
     let lengths = [opcodes.len(), arguments.len(), sheet.len(), list.len()];
-    decide(opcodes, arguments, sheet, list).map_err(|refusal| explained(refusal, lengths))
+    decide(opcodes, arguments, sheet, list).map_err(|refusal| sized(refusal, lengths))
 }
 
 /// The same, with the general words of a refusal.
@@ -72,12 +79,12 @@ fn decide(
 
 /// The refusal with the length that is wrong: the general words of 2 and 3 are about a listing's
 /// sheet and list, and not about buffers, of which the list's has room for any list.
-fn explained(refusal: Refusal, lengths: [usize; 4]) -> Refusal {
+fn sized(refusal: Refusal, lengths: [usize; 4]) -> Refusal {
     let [opcodes, arguments, sheet, list] = lengths;
     let words = match refusal.number() {
         1 => format!("there are {opcodes} opcodes and {arguments} arguments, not {BANK} of each"),
-        2 => format!("the sheet's buffer has {sheet} bytes, not {SHEET}"),
-        3 => format!("the list's buffer has {list} bytes, not {MOST_LIST}"),
+        2 => format!("the sheet's buffer has {}, not {SHEET}", bytes(sheet)),
+        3 => format!("the list's buffer has {}, not {MOST_LIST}", bytes(list)),
         _ => return refusal,
     };
     refusal.with_words(words)

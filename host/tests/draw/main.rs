@@ -11,6 +11,7 @@ mod counts;
 mod drawers;
 #[path = "../admit/drawn.rs"]
 mod drawn;
+mod explained;
 #[path = "../admit/filled.rs"]
 mod filled;
 mod lengths;

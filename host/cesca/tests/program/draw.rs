@@ -32,9 +32,10 @@ admitted need 2
   7        1      0     V  ret
 ";
 
-/// What is told of a file for whose banks nothing is drawn.
-fn refused(name: &str) -> String {
-    format!("{name}: refused 27: no sheet and list at all would be admitted with these banks\n")
+/// What is told of a file for whose banks nothing is drawn, for this reason.
+fn refused(name: &str, reason: &str) -> String {
+    let general = "no sheet and list at all would be admitted with these banks";
+    format!("{name}: refused 27: {general}: {reason}\n")
 }
 
 #[test]
@@ -110,9 +111,16 @@ fn nothing_is_drawn_where_nothing_would_be_admitted() {
     let sandbox = Sandbox::new("draw-refused").with("mine.txt", "loop: push R0\njmp loop\n");
     let sandbox = sandbox.with("blank.banks", [0; 512]).with("empty.txt", "");
     let sandbox = sandbox.with_stored(&["masked.bin"]).with("kept.bin", "kept");
-    for name in ["mine.txt", "blank.banks", "empty.txt", "masked.bin"] {
-        expect_err(sandbox.cesca(&["draw", name]), 1, &refused(name));
-        expect_err(sandbox.cesca(&["draw", name, "kept.bin"]), 1, &refused(name));
+    let past = "mov would go on past address 255";
+    for (name, reason) in [
+        ("mine.txt", "address 0 is reached at depth 0 and, by jmp at 1, at depth 1"),
+        ("blank.banks", past),
+        ("empty.txt", past),
+        ("masked.bin", "jlt at 3 tests V, which may be unsettled there"),
+    ] {
+        let told = refused(name, reason);
+        expect_err(sandbox.cesca(&["draw", name]), 1, &told);
+        expect_err(sandbox.cesca(&["draw", name, "kept.bin"]), 1, &told);
         assert_eq!(sandbox.read("kept.bin"), b"kept");
     }
 }
