@@ -47,9 +47,11 @@ fn the_words_tell_the_lengths() {
     check(300, "1 at 0: there are 256 opcodes and 44 arguments, not 256 of each");
     check(600, "2 at 0: the sheet has 88 bytes, not 512");
     check(1_023, "2 at 0: the sheet has 511 bytes, not 512");
-    let list = |length| format!("3 at 0: the routine list has {length} bytes");
-    for length in [0, 1, 3, 127, 129, 130, 3_976] {
-        check(1_024 + length, &format!("{}, not an even number from 2 to 128", list(length)));
+    let even = "not an even number from 2 to 128";
+    let list = |told: &str| format!("3 at 0: the routine list has {told}, {even}");
+    check(1_025, &list("1 byte"));
+    for length in [0, 3, 127, 129, 130, 3_976] {
+        check(1_024 + length, &list(&format!("{length} bytes")));
     }
 }
 
