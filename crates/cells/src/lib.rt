@@ -9,7 +9,7 @@ ghost use Rattle.drawings.specs.internal.Cells.{bit, packed, cellIn, larger, jo
 ghost use Rattle.drawings.specs.internal.Demands.{demand, entryCell};
 ghost use Rattle.drawings.specs.internal.Visits.{Meets};
 
-// What a word has more where its address is reached. Alone it is the word of address 0 at the
+// The bit that every reached address has set in its word. Alone it is the word of address 0 at the
 // beginning: the entry of its own routine, with no need yet.
 pub const REACHED: u32 = 33554432;
 

@@ -12,6 +12,7 @@ use lib.Seq.{ext-getD, getD-set-other, length-take-le}
 use borrow.Author.Tests.{ltb-true, ltb-false}
 use Rattle.slices.specs.Parts.{padded}
 use Rattle.slices.proofs.Bools.{by-test}
+use Rattle.slices.proofs.Lookup.{zeros}
 use Rattle.drawings.specs.internal.Cells.{needIn}
 use Rattle.drawings.specs.internal.Drafts.{isEntry, rank, listOf}
 use Rattle.drawings.proofs.DraftParts.{rank-zero, rank-mono, rank-more, list-long, listed-at}
@@ -20,11 +21,6 @@ use Rattle.drafting.proofs.Filling.{Filled, fill-start, fill-two}
 use Rattle.drafting.proofs.Numbering.{rank-after}
 
 -- ---- a list with zeros behind it
-zeros-at : (n j : ℕ) → _≡_ {A = ℕ} (getD (replicate n 0) j 0) 0
-zeros-at zero j = refl
-zeros-at (suc n) zero = refl
-zeros-at (suc n) (suc j) = zeros-at n j
-
 zeros-taken : (n m j : ℕ) → _≡_ {A = ℕ} (getD (take n (replicate m 0)) j 0) 0
 zeros-taken zero m j = refl
 zeros-taken (suc n) zero j = refl
@@ -56,7 +52,7 @@ enter-start {ws} {out} q =
       within = omega arith;
       is-rank = sym (rank-zero ws);
       filled = fill-start (ap length q ∙ length-replicate {A = ℕ} 128 0 ∙ sym (padded-long (listOf ws)));
-      rest = λ j l. rw q (zeros-at 128 j);
+      rest = λ j l. rw q (zeros 128 j);
     }
 
 module _ {ws out : List ℕ} {n a : ℕ} (s : Entering ws out n a) where

@@ -9,36 +9,35 @@ use mathlib.Core.Bool.{Bool, true, _&&_}
 use lib.ListN.{length, getD, set, length-set, replicate, length-replicate}
 use lib.Seq.{getD-set-same, getD-set-other}
 use lib.Dec.{eqb, ltb}
-use borrow.Author.Tests.{eqb-true, eqb-false, ltb-false}
+use borrow.Author.Tests.{eqb-true, eqb-false, ltb-false, lt-ltb}
 use Rattle.isa.specs.declared.Class.{Class}
 use Rattle.isa.specs.declared.Class.the-variants as class
 use Rattle.isa.specs.declared.OverflowEffect.{OverflowEffect}
 use Rattle.isa.specs.declared.OverflowEffect.the-variants.{Keeps, Settles, Unsettles}
 use Rattle.slices.proofs.Bools.{by-test}
+use Rattle.slices.proofs.Lookup.{zeros}
 use Rattle.rules.specs.Demand.{Bytes}
 use Rattle.rules.specs.Grounds.{callee}
 use Rattle.rules.specs.Sheet.{Listing, described, marked, routine, depth, routines, entry, need, classAt}
 use Rattle.rules.specs.Successors.{Successor, successor, markAfter, successors}
-use Rattle.rules.proofs.AdmittedRules.{Fits, FitsAll, Rules}
+use Rattle.rules.proofs.AdmittedRules.{described-below, Fits, FitsAll, Rules}
 use Rattle.rules.proofs.Tests.{absurd-bool}
 use Rattle.drawings.specs.Reached.{Among, first, later, Reached, at-start, by-successor, by-call}
 use Rattle.drawings.specs.declared.Cell.{Cell}
 use Rattle.drawings.specs.internal.Cells.{cell, packed, seen, needIn, depthIn, entryIn, markIn, cellIn, joined, merged}
 use Rattle.drawings.specs.internal.Demands.{Demand, demand, entryCell, roomOf, capped, targetOf, called, following, demandsOf, demandsAt}
 use Rattle.drawings.specs.internal.Visits.{met, meet, meetAll, visited, start, Visits, begin, visit}
-use Rattle.drawings.proofs.Keeping.{Kept, described-below}
+use Rattle.drawings.proofs.Keeping.{Kept}
 use Rattle.drawings.proofs.Weights.{Small, round, packed-seen, zero-unseen, unseen-zero, larger-within, merged-is-seen, merged-unseen, merged-seen}
+
+pub capped-is : (x : ℕ) → x < 256 → capped x ≡ x
+capped-is x h = rw (lt-ltb x 256 h)
 
 capped-within : (x z : ℕ) → x ≤ z → capped x ≤ z
 capped-within x z h = by-test (ltb x 256) (λ e. rw e h) (λ e. rw e (let l = ltb-false x 256 e in omega arith))
 
 and-on : (a b : Bool) → a ≡ true → b ≡ true → a && b ≡ true
 and-on a b p q = rw (p, q)
-
-pub zeros : (n i : ℕ) → _≡_ {A = ℕ} (getD (replicate n 0) i 0) 0
-zeros zero i = refl
-zeros (suc n) zero = refl
-zeros (suc n) (suc i) = zeros n i
 
 module _ (A : Listing) (m : Kept A) (bytes : Bytes (A .list)) where
   -- what a cell of the address a may say at most

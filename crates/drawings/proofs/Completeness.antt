@@ -18,7 +18,7 @@ use Rattle.rules.specs.Demand.{Bytes}
 use Rattle.rules.specs.Grounds.{find, callee}
 use Rattle.rules.specs.Sheet.{Listing, described, marked, routine, depth, routines, entry, need, classAt}
 use Rattle.rules.specs.Successors.{Successor, successors}
-use Rattle.rules.proofs.AdmittedRules.{find-passes, FitsAll, CallFits, Rules, EntryFits}
+use Rattle.rules.proofs.AdmittedRules.{described-below, find-passes, FitsAll, CallFits, Rules, EntryFits}
 use Rattle.rules.proofs.Tests.{absurd-bool}
 use Rattle.drawings.specs.Drawn.{NeedsAtLeast}
 use Rattle.drawings.specs.Reached.{Among, first, later, Reached, at-start, by-successor, by-call}
@@ -27,9 +27,9 @@ use Rattle.drawings.specs.internal.Demands.{Demand, entryCell, roomOf, c
 use Rattle.drawings.specs.internal.Visits.{isOpen, Settled}
 use Rattle.drawings.specs.internal.Drafts.{isEntry, rank, draftOf}
 use Rattle.drawings.proofs.Counting.{find-low, count, count-within, count-mono, count-more}
-use Rattle.drawings.proofs.Keeping.{described-below, Kept, other-entry}
+use Rattle.drawings.proofs.Keeping.{Kept, other-entry}
 use Rattle.drawings.proofs.Weights.{Has}
-use Rattle.drawings.proofs.Bounds.{need-byte, Below, Sound, AllAllowed, room-within, demands-allowed, below-256, visits-sound}
+use Rattle.drawings.proofs.Bounds.{capped-is, need-byte, Below, Sound, AllAllowed, room-within, demands-allowed, below-256, visits-sound}
 use Rattle.drawings.proofs.DraftParts.{rank-zero, rank-step, rank-same, rank-mono, rank-more, Placed, placed-at, unseen-word, unseen-described, Shown, shown, routines-are, list-length, sheet-length, entry-listed}
 use Rattle.drawings.proofs.Closed.{HasAll, closed-has, has-append}
 
@@ -44,9 +44,6 @@ room-deep (class.Push r) d n = omega arith
 room-deep class.Pop d n = omega arith
 room-deep (class.Swap r) d n = omega arith
 room-deep class.Halt d n = omega arith
-
-capped-is : (x : ℕ) → x < 256 → capped x ≡ x
-capped-is x h = rw (lt-ltb x 256 h)
 
 -- every address of a list of successors is seen
 abbrev SeenAll : List ℕ → List Successor → Type 0

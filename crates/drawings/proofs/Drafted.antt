@@ -1,17 +1,18 @@
 -- The draft of settled words is a drawing where admission accepts it; where it does not, nothing is admitted.
 -- Assumes nothing.
-use Prim.Native.Nat.{ℕ, zero, suc, _+_, _*_, _≤_, _<_}
+use Prim.Native.Nat.{ℕ, zero, suc, _+_, _≤_, _<_}
 use native.Mathlib.Omega.{arith}
 use mathlib.Core.Path.{_≡_}
 use mathlib.Core.List.{List, _∷_}
-use lib.ListN.{getD, List·getD-eq-default}
+use lib.ListN.{getD}
 use lib.Dec.{ltb}
 use borrow.Author.Tests.{ltb-true, ltb-false}
 use Rattle.model.specs.Step.{Program}
 use Rattle.slices.proofs.Bools.{by-test}
 use Rattle.rules.specs.Demand.{Bytes}
 use Rattle.rules.specs.Grounds.{admitOf}
-use Rattle.rules.specs.Sheet.{Listing, word, described}
+use Rattle.rules.specs.Sheet.{Listing, described}
+use Rattle.rules.proofs.AdmittedRules.{blank-past}
 use Rattle.drawings.specs.Drawn.{listed, Admitted, Drawn}
 use Rattle.drawings.specs.internal.Cells.{seen, needIn, markIn}
 use Rattle.drawings.specs.internal.Drafts.{isEntry, rank, listFrom, lowByte, highByte, sheetFrom, sheetOf, listOf, draftOf}
@@ -53,15 +54,6 @@ module _ (p : Program) (ws : List ℕ) (settled : Settled p ws) where
   abbrev D : Listing
   D = draftOf p ws
 
-  -- a word past the sheet is 0 too
-  blank-past : (a : ℕ) → 256 ≤ a → word D a ≡ 0
-  unfolding word
-  blank-past a h =
-      let long = sheet-length p ws in
-      let w : getD (D .sheet) (2 * a) 0 ≡ 0 = List·getD-eq-default (D .sheet) 0 {n = 2 * a} (omega arith) in
-      let w′ : getD (D .sheet) (2 * a + 1) 0 ≡ 0 = List·getD-eq-default (D .sheet) 0 {n = 2 * a + 1} (omega arith) in
-      rw (w, w′)
-
   pub draft-drawn : admitOf D ≡ 0 → Drawn p (sheetOf ws) (listOf ws)
   unfolding draftOf
   draft-drawn e =
@@ -73,7 +65,7 @@ module _ (p : Program) (ws : List ℕ) (settled : Settled p ws) where
         all-reached = reached-described D m y ws settled;
         others-blank = λ a n.
             by-test (described D a) (λ q. absurd (n (described-reached D m y ws settled a q)))
-            (λ q. by-test (ltb a 256) (λ t. m .blank a (ltb-true a 256 t) q) (λ t. blank-past a (ltb-false a 256 t)));
+            (λ q. by-test (ltb a 256) (λ t. m .blank a (ltb-true a 256 t) q) (λ t. blank-past D (sheet-length p ws) a (ltb-false a 256 t)));
         zero-first = m .base .entry-zero;
         by-entry = ordered D m y ws settled;
         least = λ s l h. needs-least (listed p s l) (kept (listed p s l) (h .accepted)) (h .list-bytes) ws settled;

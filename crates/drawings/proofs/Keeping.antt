@@ -1,14 +1,13 @@
 -- Admission's answer 0 and the rules, both ways: what base and drawing use of a listing, and what must be shown of one.
 -- Assumes nothing.
-use Prim.Native.Nat.{ℕ, zero, suc, _+_, _*_, _≤_, _<_}
+use Prim.Native.Nat.{ℕ, zero, suc, _+_, _≤_, _<_}
 use native.Mathlib.Omega.{arith}
 use mathlib.Core.Path.{_≡_, refl, sym, ap, _∙_}
 use mathlib.Core.Logic.{_≢_}
 use mathlib.Core.List.{List, [], _∷_, _++_}
 use mathlib.Core.Bool.{Bool, true, false, not, _&&_, _||_}
-use lib.ListN.{length, getD, List·getD-eq-default}
 use lib.Dec.{eqb, leb, ltb}
-use borrow.Author.Tests.{eqb-true, ltb-true, ltb-false, leb-false, not-false, eq-eqb, ne-eqb, le-ltb, lt-leb}
+use borrow.Author.Tests.{eqb-true, leb-false, not-false, eq-eqb, ne-eqb, le-ltb, lt-leb}
 use Rattle.isa.specs.declared.Class.{Class}
 use Rattle.isa.specs.declared.Class.the-variants as class
 use Rattle.model.specs.Run.{testsIn}
@@ -18,7 +17,7 @@ use Rattle.slices.specs.Checks.{NoneBroken, Check, check}
 use Rattle.rules.specs.Grounds.{each, callee, isPopOrSwap, isReturn, ofCall, badBanks, badList, badBlank, badRoutine, badStart, badEntry, badSuccessor, anyBad, rulesAt, addressChecks, checks, admitOf}
 use Rattle.rules.specs.Sheet.{Listing, word, described, marked, routine, depth, routines, entry, need, classAt}
 use Rattle.rules.specs.Successors.{Successor, successors, goesOn}
-use Rattle.rules.proofs.AdmittedRules.{numbered-checks, Fits, FitsAll, Rules, EntryFits, Admitted, admitted}
+use Rattle.rules.proofs.AdmittedRules.{described-below, numbered-checks, Fits, FitsAll, Rules, EntryFits, Admitted, admitted}
 use Rattle.rules.proofs.CheckLists.{none-append, none-each}
 use Rattle.rules.proofs.Tests.{absurd-bool, and-false}
 
@@ -54,17 +53,6 @@ each-none f (suc n) i h =
     append-none (f i) (each f (suc i) n) (h i (omega arith) (omega arith)) (each-none f n (suc i) (λ k l m. h k (omega arith) (omega arith)))
 
 module _ (L : Listing) where
-  -- a word past the sheet is 0, so a described address is below 256
-  pub described-below : length (L .sheet) ≡ 512 → (a : ℕ) → described L a ≡ true → a < 256
-  unfolding described word
-  described-below h a e =
-      by-test (ltb a 256) (ltb-true a 256)
-      (λ q.
-      let far : 256 ≤ a = ltb-false a 256 q in
-      let w : getD (L .sheet) (2 * a) 0 ≡ 0 = List·getD-eq-default (L .sheet) 0 {n = 2 * a} (omega arith) in
-      let w′ : getD (L .sheet) (2 * a + 1) 0 ≡ 0 = List·getD-eq-default (L .sheet) 0 {n = 2 * a + 1} (omega arith) in
-      absurd-bool (sym (rw (w, w′) at e)))
-
   -- every rule holds: those of `Admitted`, and 1, 3, 4, 5 and 13
   pub record Kept : Type 0 where
     pub base : Admitted L
@@ -109,10 +97,10 @@ module _ (L : Listing) where
         list-good = n .1 .1 .0;
         blank = λ a h q. blank-of a (none-each (λ a. check 4 a (badBlank L a) ∷ []) 256 0 (n4 .0) a (omega arith) (omega arith) .0) q;
         named = λ a d.
-            let low = described-below (m .sheet-long) a d in
+            let low = described-below L (m .sheet-long) a d in
             named-of a (none-each (λ a. check 5 a (badRoutine L a) ∷ []) 256 0 (n5 .0) a (omega arith) (omega arith) .0) d;
         goes-on = λ a d.
-            let low = described-below (m .sheet-long) a d in
+            let low = described-below L (m .sheet-long) a d in
             goes-of a (classAt L a) (rw (d, addressChecks) at (none-each (addressChecks L) 256 0 (n7 .1) a (omega arith) (omega arith)));
       }
 

@@ -38,7 +38,7 @@ bit-read false = refl
 byte : (x : ℕ) → x % 256 < 256
 byte x = omega arith
 
-small : (x : ℕ) → x < 256 → x % 256 ≡ x
+pub small : (x : ℕ) → x < 256 → x % 256 ≡ x
 small x h = omega arith
 
 -- a cell whose numbers are bytes

@@ -8,7 +8,7 @@ ghost use Rattle.rules.specs.Grounds.{sheetSize, maxListSize};
 ghost use Rattle.drawings.specs.Reached.{banks};
 ghost use Rattle.judging.specs.internal.Judging.{Drafted, Judged};
 
-// A draft of the sheet and the list, and its routines; 0 routines where nothing can be admitted.
+// A draft of the sheet and the list, and its routines; or 0, and then nothing can be admitted.
 pub fn draft(opcodes: &[u8], arguments: &[u8], sheet: &mut [u8], list: &mut [u8]) -> usize
     requires { ⌜ (length (now sheet) ≡ sheetSize) × (now list ≡ replicate maxListSize 0) ⌝ }
     ensures { λ n. ⌜ Drafted (banks (now (opcodes .entry)) (now (arguments .entry))) (now (sheet .exit)) (now (list .exit)) n ⌝ }

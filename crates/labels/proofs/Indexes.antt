@@ -12,6 +12,7 @@ use lib.ListN.{length, getD, take, drop, set, replicate, drop-of-length-le, leng
 use lib.Seq.{getD-set-same, getD-set-other, drop-cons}
 use borrow.Author.Tests.{eq-eqb, ne-eqb, eqb-true, eqb-false, ltb-true, ltb-false}
 use Rattle.slices.proofs.Bools.{by-test, both}
+use Rattle.slices.proofs.Lookup.{zeros}
 use Rattle.labels.specs.Lines.{linesOf, labelSize, labelOf, isLabelled}
 use Rattle.labels.specs.Labels.{same, givenAt}
 use Rattle.labels.specs.internal.Search.{cutOf, slots, hashFrom, hashOf, isNew, startsAfter, numbersAfter, NewIndex, Index}
@@ -74,11 +75,6 @@ replicated : (n a h : ℕ) → getD (replicate n a) h 0 ≤ a
 replicated zero a h = omega arith
 replicated (suc n) a zero = omega arith
 replicated (suc n) a (suc h) = replicated n a h
-
-zeros : (n h : ℕ) → _≡_ {A = ℕ} (getD (replicate n 0) h 0) 0
-zeros zero h = refl
-zeros (suc n) zero = refl
-zeros (suc n) (suc h) = zeros n h
 
 pub new-rooms : (t : List ℕ) {starts numbers : List ℕ} → NewIndex t starts numbers → (length starts ≡ slots) × (length numbers ≡ slots)
 new-rooms t e = (ap length (e .0) ∙ length-replicate slots (length t), ap length (e .1) ∙ length-replicate {A = ℕ} slots 0)

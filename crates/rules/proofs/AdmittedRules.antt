@@ -178,15 +178,17 @@ module _ (L : Listing) where
     pub rules : (a : ℕ) → described L a ≡ true → Rules a (classAt L a)
 
   -- a word past the sheet is 0, so a described address is below 256
-  described-below : length (L .sheet) ≡ 512 → (a : ℕ) → described L a ≡ true → a < 256
-  unfolding described word
-  described-below h a e =
-      by-test (ltb a 256) (ltb-true a 256)
-      (λ q.
-      let far : 256 ≤ a = ltb-false a 256 q in
+  pub blank-past : length (L .sheet) ≡ 512 → (a : ℕ) → 256 ≤ a → word L a ≡ 0
+  unfolding word
+  blank-past h a far =
       let w : getD (L .sheet) (2 * a) 0 ≡ 0 = List·getD-eq-default (L .sheet) 0 {n = 2 * a} (omega arith) in
       let w′ : getD (L .sheet) (2 * a + 1) 0 ≡ 0 = List·getD-eq-default (L .sheet) 0 {n = 2 * a + 1} (omega arith) in
-      absurd-bool (sym (rw (w, w′) at e)))
+      rw (w, w′)
+
+  pub described-below : length (L .sheet) ≡ 512 → (a : ℕ) → described L a ≡ true → a < 256
+  unfolding described
+  described-below h a e =
+      by-test (ltb a 256) (ltb-true a 256) (λ q. absurd-bool (sym (rw (blank-past h a (ltb-false a 256 q)) at e)))
 
   pub admitted : admitOf L ≡ 0 → Admitted
   unfolding admitOf checks addressChecks routines

@@ -81,8 +81,8 @@ fn is_hopeless(opcodes: &[u8], arguments: &[u8], cells: &[u32]) -> bool
     false
 }
 
-// The cells are settled; false if nothing can be admitted, which most banks of no use show after
-// the first pass. Passes go upwards and downwards in turn, since calls lead to either side.
+// The cells are settled; or false, and then nothing can be admitted, as most banks of no use show
+// after the first pass. Passes go upwards and downwards in turn, since calls lead to either side.
 pub fn settle(opcodes: &[u8], arguments: &[u8], cells: &mut [u32]) -> bool
     requires { ⌜ now cells ≡ start ⌝ }
     ensures { λ r. ⌜ Settles (banks (now (opcodes .entry)) (now (arguments .entry))) (now (cells .exit)) r ⌝ }

@@ -43,7 +43,7 @@ fn room(cells: &[u32], class: Class, depth: u8) -> u8
     }
 }
 
-// A call's target is an entry.
+// A call's target is made an entry; whether that demand was open.
 fn meet_callee(cells: &mut [u32], class: Class) -> bool
     requires { ⌜ length (now cells) ≡ bankSize ⌝ }
     ensures { λ r. ⌜ Meets (now (cells .entry)) (now (cells .exit)) (called class) r ⌝ }
@@ -66,7 +66,7 @@ fn follow(c: Cell, depth: u8, mark: bool) -> Cell
     }
 }
 
-// The successors of an address follow its cell.
+// The successors of an address are made to follow its cell; whether a demand was open.
 fn meet_successors(cells: &mut [u32], class: Class, a: u8, c: Cell) -> bool
     requires { ⌜ length (now cells) ≡ bankSize ⌝ }
     ensures { λ r. ⌜ Meets (now (cells .entry)) (now (cells .exit)) (following (c .entry) (successors class a (c .depth) (c .mark))) r ⌝ }

@@ -58,11 +58,3 @@ fn a_members_listing_is_never_better_than_the_drawing() {
     });
     gains.check();
 }
-
-#[test]
-fn a_drawing_is_drawn_again() {
-    each_case(500, |random| {
-        let drawing = drawn(&Program::of(&admitted(random))).expect("a drawing");
-        assert_eq!(drawn(&Program::of(&drawing)), Some(drawing));
-    });
-}

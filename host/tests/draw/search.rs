@@ -10,8 +10,9 @@
 //! no need or mark of a reached address has changed. What is left lies within the used addresses,
 //! and so do its entries, each of another routine. Needs fall from caller to callee, so no routine
 //! is under way twice, and each byte that a routine has on the stack, with what its callees have, was
-//! put there by a push or call at an address of its own: depths are at most [`LAST`], and needs
-//! above it may be put down to it. Only numbers in another order are left, which are all tried.
+//! put there by a push or call at an address of its own: depths are at most [`LAST`]. Callees first,
+//! each need may be put down to the most that its routine's depths and calls ask for, which is at
+//! most [`LAST`] for the same reason. Only numbers in another order are left, which are all tried.
 
 use crate::programs::Program;
 use reference::{Listing, SheetWord};

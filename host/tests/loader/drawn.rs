@@ -2,7 +2,7 @@
 
 use crate::files;
 use crate::random::each_case;
-use cesca::{draw, Drawing, Listing, BANK};
+use cesca::{Listing, BANK, MOST_LIST, SHEET};
 
 #[test]
 fn a_listing_of_banks_has_what_is_drawn_and_is_admitted() {
@@ -12,18 +12,17 @@ fn a_listing_of_banks_has_what_is_drawn_and_is_admitted() {
         let arguments: [u8; BANK] = random.bytes(BANK).try_into().expect("a bank");
         // Jumps and calls stay near address 0, so that more programs meet again and end.
         let arguments = arguments.map(|argument| argument % 16);
-        let found = Listing::from_banks(opcodes, arguments);
-        let wanted = draw(&opcodes, &arguments).map(|Drawing { sheet, list }| {
-            Listing::from_parts(opcodes, arguments, sheet, &list).expect("an even list")
-        });
-        assert_eq!(found, wanted);
-        match found {
+        let (mut sheet, mut list) = ([0; SHEET], [0; MOST_LIST]);
+        let wanted = reference::draw(&opcodes, &arguments, &mut sheet, &mut list);
+        match Listing::from_banks(opcodes, arguments) {
             Ok(listing) => {
                 listing.admit().expect("what is drawn is admitted");
+                let list = &list[..2 * wanted.expect("routines")];
+                assert!(listing.to_bytes() == [&opcodes, &arguments, &sheet[..], list].concat());
                 drawn += 1;
             }
             Err(refusal) => {
-                assert_eq!((refusal.number(), refusal.place()), (27, None));
+                assert_eq!((Err(refusal.number()), refusal.place()), (wanted, None));
                 refused += 1;
             }
         }

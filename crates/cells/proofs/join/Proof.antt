@@ -1,5 +1,6 @@
 -- Field by field.
 -- Assumes nothing.
+use mathlib.Core.Path.{refl}
 use borrow.Author.Needs.{needs}
 use Rattle.cells.proofs.join.Statement.{statement}
 use Rattle.cells.proofs.join.Tie as tie
@@ -9,4 +10,4 @@ join-spec =
     tie.close
     (tie.spec
     (λ c κs. search needs)
-    (λ c. rw (c .larger-of .ensures)))
+    (λ c. rw (c .larger-of .ensures) refl))

@@ -1,15 +1,10 @@
 -- Each number is a byte, so it is its remainder.
 -- Assumes nothing.
-use mathlib.Core.Path.{_≡_}
-use Prim.Native.Nat.{ℕ, _%_, _<_}
-use native.Mathlib.Omega.{arith}
 use Rattle.drawings.specs.internal.Cells.{packed}
+use Rattle.drawings.proofs.Weights.{small}
 use borrow.Author.Needs.{needs}
 use Rattle.cells.proofs.pack.Statement.{statement}
 use Rattle.cells.proofs.pack.Tie as tie
-
-small : (x : ℕ) → x < 256 → x % 256 ≡ x
-small x h = omega arith
 
 pub pack-spec : {M : Type 1} → statement M
 unfolding packed

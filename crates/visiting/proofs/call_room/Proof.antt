@@ -1,6 +1,8 @@
 -- By whether the sum is a byte.
 -- Assumes nothing.
-use borrow.Author.Tests.{lt-ltb, le-ltb}
+use mathlib.Core.Path.{sym}
+use borrow.Author.Tests.{le-ltb}
+use Rattle.drawings.proofs.Bounds.{capped-is}
 use borrow.Author.Needs.{needs}
 use Rattle.visiting.proofs.call_room.Statement.{statement}
 use Rattle.visiting.proofs.call_room.Tie as tie
@@ -12,5 +14,5 @@ call-room-spec =
     (λ c. search needs)
     (λ c. search needs)
     (λ c. search needs)
-    (λ c. simp (lt-ltb _ _ (c .if1 .taken)))
+    (λ c. sym (capped-is _ (c .if1 .taken)))
     (λ c. simp (le-ltb _ _ (c .if1 .left))))

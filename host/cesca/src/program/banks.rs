@@ -55,7 +55,7 @@ fn is_source(file: &[u8]) -> bool {
 
 /// The refusal of a file that is too short for banks.
 fn short(file: &[u8]) -> Refusal {
-    let words = format!("there are {} bytes, and banks have {}", file.len(), 2 * BANK);
+    let words = format!("its length is {}, and that of banks is {}", file.len(), 2 * BANK);
     Refusal::of_call(1).with_words(words)
 }
 

@@ -159,7 +159,7 @@ fn files_of_other_lengths_are_told() {
     let zero = "it has a byte 0 and so is no text:";
     let longer = format!("{zero} it is longer than banks and no listing:");
     for (length, told) in [
-        (511, format!("1: {zero} there are 511 bytes, and banks have 512")),
+        (511, format!("1: {zero} its length is 511, and that of banks is 512")),
         (1_000, format!("2 at 0: {longer} the sheet has 488 bytes, not 512")),
         (1_153, format!("3 at 0: {longer} the routine list has more than 128 bytes")),
         (65_536, format!("3 at 0: {longer} the routine list has more than 128 bytes")),

@@ -68,7 +68,8 @@ fn free_bits_and_fields_that_are_not_shown_come_back_as_0() {
 fn files_that_are_too_short() {
     for length in [0, 1, 256, 511] {
         let sandbox = Sandbox::new("print-short").with("mine.banks", vec![0; length]);
-        let told = format!("mine.banks: refused 1: there are {length} bytes, and banks have 512\n");
+        let told =
+            format!("mine.banks: refused 1: its length is {length}, and that of banks is 512\n");
         expect_err(sandbox.cesca(&["print", "mine.banks"]), 1, &told);
     }
     let sandbox = Sandbox::new("print-missing");
