@@ -1,6 +1,6 @@
 -- 02 [2], SHEETS DRAWN FOR MEMBERS: what is drawn from banks alone, and the whole outcome of a call.
 -- Assumes nothing.
-use Prim.Native.Nat.{ℕ, _/_, _≤_, _<_}
+use Prim.Native.Nat.{ℕ, _≤_, _<_}
 use mathlib.Core.Path.{_≡_}
 use mathlib.Core.Bool.{true, not}
 use mathlib.Core.List.{List, [], _∷_}
@@ -93,7 +93,8 @@ pub data Draws (c : Lent) : Outcome → Type 0 where
   none-admitted : sizeFault c ≡ 0 → ((s l : List ℕ) → Admitted (c .program) s l → ⊥) → Draws c (refused 27 c)
   -- "The answer gives the number of routines, and the list buffer is 0 after them"
   draws :
-      sizeFault c ≡ 0 → (s l : List ℕ) → Drawn (c .program) s l → Draws c (outcome 0 (length l / 2) s (padded maxListSize l))
+      sizeFault c ≡ 0 → (s l : List ℕ) → Drawn (c .program) s l
+      → Draws c (outcome 0 (routines (listed (c .program) s l)) s (padded maxListSize l))
 
 -- THE PROMISE of a call and its outcome
 pub record DrawnAs (c : Lent) (o : Outcome) : Type 0 where

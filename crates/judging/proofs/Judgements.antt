@@ -11,6 +11,7 @@ use lib.ListN.{length, take, set, replicate}
 use borrow.Author.Tests.{eqb-true, eqb-false}
 use Rattle.model.specs.Step.{Program}
 use Rattle.rules.specs.Grounds.{admitOf}
+use Rattle.rules.specs.Sheet.{routines}
 use Rattle.rules.proofs.Tests.{absurd-bool}
 use Rattle.slices.specs.Parts.{partOf, padded}
 use Rattle.drawings.specs.Drawn.{listed}
@@ -66,7 +67,7 @@ count-drafted p ws = list-length p ws
 pub judged :
     (p : Program) (s l : List ℕ) (n answer : ℕ) {part : List ℕ} → Drafted p s l n → (n ≡ 0 → ⊥) → part ≡ partOf l 0 (2 * n)
     → answer ≡ admitOf (listed p s part) → Judged p s l n (eqb answer 0)
-unfolding draftOf
+unfolding draftOf routines
 judged p s l n answer {part} d h lends e =
     let f = d .some (pos-of-ne-zero h) in
     let ws = f .words in

@@ -1,15 +1,15 @@
 -- A draft of settled words, and what admission's answer on it tells.
 -- Assumes nothing.
-use Prim.Native.Nat.{ℕ, _/_, _≤_, _<_}
+use Prim.Native.Nat.{ℕ, _≤_, _<_}
 use mathlib.Core.Path.{_≡_}
 use mathlib.Core.Bool.{Bool, true, false}
 use mathlib.Core.List.{List}
-use lib.ListN.{length}
 use Rattle.model.specs.Step.{Program}
 use Rattle.rules.specs.Grounds.{maxListSize}
+use Rattle.rules.specs.Sheet.{routines}
 use Rattle.slices.specs.Parts.{padded}
 use Rattle.slices.specs.Sizes.{bankSize}
-use Rattle.drawings.specs.Drawn.{Drawn}
+use Rattle.drawings.specs.Drawn.{listed, Drawn}
 use Rattle.drawings.specs.internal.Drafts.{rank, sheetOf, listOf}
 use Rattle.drawings.specs.internal.Impossible.{NoneAdmitted}
 use Rattle.drawings.specs.internal.Visits.{Settled}
@@ -33,7 +33,7 @@ pub record Accepted (p : Program) (s l : List ℕ) (n : ℕ) : Type 0 where
   pub list : List ℕ
   pub drawn : Drawn p s list
   pub buffer-is : l ≡ padded maxListSize list
-  pub count : n ≡ length list / 2
+  pub count : n ≡ routines (listed p s list)
   pub few : n ≤ 64
 
 pub record Judged (p : Program) (s l : List ℕ) (n : ℕ) (answer : Bool) : Type 0 where
