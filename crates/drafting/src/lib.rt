@@ -109,15 +109,3 @@ pub fn write_list(cells: &[u32], out: &mut [u8])
         a += 1;
     }
 }
-
-// A whole buffer is copied.
-pub fn copy(to: &mut [u8], from: &[u8])
-    requires { ⌜ length (now to) ≡ length (now from) ⌝ }
-    ensures { λ _. ⌜ now (to .exit) ≡ now (from .entry) ⌝ }
-{
-    let mut i: usize = 0;
-    while i < from.len() {
-        to[i] = from[i];
-        i += 1;
-    }
-}

@@ -1,10 +1,12 @@
 -- From the sizes and the judgement to the outcome of a call.
 -- Assumes nothing.
 use Prim.Native.Nat.{ℕ}
-use mathlib.Core.Path.{_≡_, sym, _∙_}
-use mathlib.Core.List.{List}
+use native.Mathlib.Omega.{arith}
+use mathlib.Core.Path.{_≡_, sym, ap₂, _∙_}
+use mathlib.Core.List.{List, _++_, append-nil}
 use mathlib.Core.Bool.{Bool, true, false}
-use lib.ListN.{length}
+use lib.ListN.{length, take, drop, drop-of-length-le}
+use lib.Seq.{take-length}
 use borrow.Author.Tests.{eqb-true, not-false}
 use Rattle.slices.proofs.Checks.{none-broken}
 use Rattle.drawings.specs.Drawn.{Lent, outcome, sizeChecks, sizeFault, refused, bad-size, none-admitted, draws, DrawnAs}
@@ -23,6 +25,10 @@ sheet-fits c e z l = sized c (sym e ∙ z) .0 ∙ sym l
 
 pub list-fits : (c : Lent) {n k : ℕ} → n ≡ sizeFault c → n ≡ 0 → k ≡ 128 → length (c .list) ≡ k
 list-fits c e z l = sized c (sym e ∙ z) .1 ∙ sym l
+
+-- and then it is all replaced
+pub copied : (from to : List ℕ) {out : List ℕ} → length to ≡ length from → out ≡ take (length from) from ++ drop (length from) to → out ≡ from
+copied from to h e = e ∙ ap₂ _++_ (take-length from) (drop-of-length-le to {i = length from} (omega arith)) ∙ append-nil from
 
 pub size-refused : (c : Lent) (n : ℕ) → n ≡ sizeFault c → (n ≡ 0 → ⊥) → DrawnAs c (refused n c)
 size-refused c n e h = rw e (promised (bad-size (λ z. h (e ∙ z))))

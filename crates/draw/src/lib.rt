@@ -46,7 +46,7 @@ pub extern "C" fn cesca_draw(
     if !judging::is_admitted(opcodes, arguments, &drawn_sheet, &drawn_list, n) {
         return Drawing(27, 0);
     }
-    drafting::copy(sheet, &drawn_sheet);
-    drafting::copy(list, &drawn_list);
+    bytes::copy(&drawn_sheet, sheet);
+    bytes::copy(&drawn_list, list);
     Drawing(0, n as u8)
 }

@@ -1,13 +1,14 @@
 -- From settled words to a draft, and from admission's answer on it to what it tells.
 -- Assumes nothing.
-use Prim.Native.Nat.{ℕ, zero, suc, _*_, _≤_, _<_}
+use Prim.Native.Nat.{ℕ, _*_, _≤_, _<_}
 use native.Mathlib.Omega.{arith}
 use native.Mathlib.Nat.{pos-of-ne-zero}
 use mathlib.Core.Path.{_≡_, refl, sym, ap, _∙_}
-use mathlib.Core.List.{List, [], _∷_, _++_}
+use mathlib.Core.List.{List, _++_}
 use mathlib.Core.Bool.{Bool, false}
 use lib.Dec.{eqb}
-use lib.ListN.{length, take, set, replicate}
+use lib.ListN.{length, set, replicate}
+use lib.Seq.{take-at, take-take}
 use borrow.Author.Tests.{eqb-true, eqb-false}
 use Rattle.model.specs.Step.{Program}
 use Rattle.rules.specs.Grounds.{admitOf}
@@ -46,19 +47,9 @@ drafted {p} {ws} v e h q w =
 
 -- ---- admission's answer
 
-take-front : (l r : List ℕ) → take (length l) (l ++ r) ≡ l
-take-front [] r = refl
-take-front (x ∷ l) r = ap {B = List ℕ} (λ t. x ∷ t) (take-front l r)
-
-take-less : (n m : ℕ) (l : List ℕ) → n ≤ m → take n (take m l) ≡ take n l
-take-less zero m l h = refl
-take-less (suc n) zero l h = absurd (omega arith)
-take-less (suc n) (suc m) [] h = refl
-take-less (suc n) (suc m) (x ∷ l) h = ap {B = List ℕ} (λ t. x ∷ t) (take-less n m l (omega arith))
-
 -- the part of the buffer that admission is lent
 pub unpadded : (l : List ℕ) (n : ℕ) → length l ≡ n → n ≤ 128 → partOf (padded 128 l) 0 n ≡ l
-unpadded l n e h = take-less n 128 (l ++ replicate 128 0) h ∙ ap (λ (k : ℕ). take k (l ++ replicate 128 0)) (sym e) ∙ take-front l (replicate 128 0)
+unpadded l n e h = take-take n 128 (l ++ replicate 128 0) h ∙ take-at l (replicate 128 0) n e
 
 count-drafted : (p : Program) (ws : List ℕ) → length (listOf ws) ≡ 2 * rank ws 256
 unfolding draftOf
