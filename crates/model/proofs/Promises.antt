@@ -35,7 +35,7 @@ checks-numbered : (xs : List Cause) → Numbered (checksOf xs)
 checks-numbered [] = tt
 checks-numbered (x ∷ xs) = (refusal-numbered (x .refusal), checks-numbered xs)
 
-abbrev precheckNumber : Precheck → ℕ
+abbrev pub precheckNumber : Precheck → ℕ
 precheckNumber (Failed r) = refusalNumber r
 precheckNumber Passed = 0
 
@@ -44,6 +44,10 @@ number-is : (xs : List Cause) → precheckNumber (firstCause xs) ≡ firstBroken
 unfolding firstBroken
 number-is [] = refl
 number-is (x ∷ xs) = by-test (x .given) (λ q. rw (q, firstBroken) (omega arith)) (λ q. rw (q, firstBroken) (number-is xs))
+
+-- so an answer with its number names that rule
+pub first-named : (xs : List Cause) (n : ℕ) → n ≡ precheckNumber (firstCause xs) → FirstViolation (checksOf xs) n
+first-named xs n e = rw (e ∙ number-is xs) (first-violation (checksOf xs) (checks-numbered xs))
 
 passes : (xs : List Cause) → NoneBroken (checksOf xs) → firstCause xs ≡ Passed
 passes [] p = refl
@@ -70,7 +74,7 @@ module _ (c : Call) where
 
   violation : (n : ℕ) → n ≡ precheckNumber (refusalOf c) → FirstViolation (runChecks c) n
   unfolding refusalOf
-  violation n e = rw (e ∙ number-is (causes c)) (first-violation (runChecks c) (checks-numbered (causes c)))
+  violation n e = first-named (causes c) n e
 
   refused-promise : (r : Refusal) → refusalOf c ≡ Failed r → RunPromise c (refusedOf r c)
   unfolding callOf refusalOf

@@ -101,11 +101,11 @@ no-leading-zero : (n : ℕ) → 0 < n → 49 ≤ getD (decimal n) 0 0
 no-leading-zero n l = rw (← digits-decimal n n l (omega arith)) (leads n n l (omega arith))
 
 -- ten, and k times ten times that
-abbrev tens : ℕ → ℕ
+abbrev pub tens : ℕ → ℕ
 tens zero = 10
 tens (suc k) = 10 * tens k
 
-digits-below : (k n : ℕ) → n < tens k → length (decimal n) ≤ suc k
+pub digits-below : (k n : ℕ) → n < tens k → length (decimal n) ≤ suc k
 digits-below zero n l = rw (one-digit n l) (omega arith)
 digits-below (suc k) n l =
     by-test (ltb n 10)
@@ -115,7 +115,7 @@ digits-below (suc k) n l =
     rw (more-digits n (ltb-false n 10 e), length-append (decimal (n / 10)) (digit n ∷ [])) (omega arith))
 
 -- a number of 32 bits has at most ten digits
-decimal-short : (n : ℕ) → n < 4294967296 → length (decimal n) ≤ mostDigits
+pub decimal-short : (n : ℕ) → n < 4294967296 → length (decimal n) ≤ mostDigits
 decimal-short n l = let h : n < 10000000000 = omega arith in digits-below 9 n h
 
 -- a number of 32 bits written in decimal

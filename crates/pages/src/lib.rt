@@ -1,4 +1,6 @@
 // Bytes, texts and decimal numbers written from a place on. What has no room is dropped.
+pub mod columns;
+
 ghost use mathlib.Core.Path.{_≡_};
 ghost use Rattle.pages.specs.Text.{digit, DecimalWritten};
 ghost use Rattle.pages.specs.Page.{page, putOf, writeOf};
