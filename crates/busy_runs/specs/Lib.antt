@@ -1,0 +1,3 @@
+pub mod Busy
+pub mod Lines
+pub mod internal

@@ -1,0 +1,1 @@
+// What a run executes. `specs/` says which addresses, and how often each; nothing here runs.

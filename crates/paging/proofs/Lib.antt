@@ -1,0 +1,4 @@
+-- Laws that belong to no one function.
+pub mod Forms
+pub mod Line
+pub mod PageLoop

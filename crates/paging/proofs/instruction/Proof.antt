@@ -1,0 +1,16 @@
+-- The fields are cut from the bytes, and the form is the table's.
+-- Assumes nothing.
+use mathlib.Core.Path.{_∙_}
+use borrow.Author.Needs.{needs}
+use Rattle.paging.proofs.Forms.{instruction-found}
+use Rattle.paging.proofs.instruction.Statement.{statement}
+use Rattle.paging.proofs.instruction.Tie as tie
+
+pub instruction-spec : {M : Type 1} → statement M
+instruction-spec =
+    tie.close
+    (tie.spec
+    (λ c. search needs)
+    (λ c. search needs)
+    (λ c κs. search needs)
+    (λ c. c .instruction .ensures ∙ instruction-found _ _ (c .before .fits .opcode .fits)))

@@ -1,0 +1,3 @@
+pub mod Busier
+pub mod Ranking
+pub mod internal
