@@ -6,6 +6,7 @@ mod by_hand;
 #[path = "../run/case.rs"]
 mod case;
 mod compare;
+mod counted;
 mod laws;
 mod lines;
 #[path = "../common/memory.rs"]
