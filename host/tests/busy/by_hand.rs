@@ -6,19 +6,21 @@ use crate::memory::{Guarded, Memory};
 use cesca::{BusyReport, State, Stop, BANK, PAGE};
 
 /// mov R0, 3; add R0, R0, 255; jnz 1; hlt
-pub const LOOP: [[u8; 2]; 4] = [[0x30, 0x03], [0x10, 0xFF], [0xB4, 0x01], [0xF8, 0x00]];
+const LOOP: [[u8; 2]; 4] = [[0x30, 0x03], [0x10, 0xFF], [0xB4, 0x01], [0xF8, 0x00]];
 
-/// Checks a run of both: how it stops, how often it executes which addresses and no others, which
-/// lines stand at the beginning of the page, and what is left in the buffers of the run.
+/// Checks a run of both from an address: how it stops, how often it executes which addresses and no
+/// others, which lines stand at the beginning of the page, and what is left in the buffers of the
+/// run.
 pub fn check(
     before: &Buffers,
-    [budget, pc]: [u32; 2],
+    budget: u32,
+    pc: u8,
     stop: Stop,
     counts: &[(u8, u32)],
     page: &[&str],
     after: &Memory,
 ) {
-    let start = State { pc: pc as u8, ..State::start() };
+    let start = State { pc, ..State::start() };
     let (answer, found) = compared(before, budget, start);
     let BusyReport { report, lines } = answer.expect("nothing to refuse");
     let steps = counts.iter().map(|(_, count)| count).sum();
@@ -32,7 +34,7 @@ pub fn check(
 /// Checks a run from address 0 that leaves its buffers as they were.
 fn check_words(words: &[[u8; 2]], budget: u32, stop: Stop, counts: &[(u8, u32)], page: &[&str]) {
     let memory = Memory::with_words(words);
-    check(&Buffers::old(memory.clone()), [budget, 0], stop, counts, page, &memory);
+    check(&Buffers::old(memory.clone()), budget, 0, stop, counts, page, &memory);
 }
 
 #[test]
@@ -70,7 +72,7 @@ fn equal_counts_by_lower_address() {
     let run = |budget, counts: [u32; 3], page: [&str; 3]| {
         let counts = [(0, counts[0]), (254, counts[1]), (255, counts[2])];
         let before = Buffers::old(memory.clone());
-        check(&before, [budget, 254], Stop::Spent, &counts, &page, &memory);
+        check(&before, budget, 254, Stop::Spent, &counts, &page, &memory);
     };
     let [jump, first, last] = [
         "00      10 jmp 254                ",
@@ -107,7 +109,7 @@ fn listing_a() {
     let mut after = memory.clone();
     after.stack.inner_mut()[254] = 2;
     let counts: Vec<(u8, u32)> = (0..8).map(|at| (at, 1)).collect();
-    check(&Buffers::old(memory), [1_000, 0], Stop::Halted, &counts, &page, &after);
+    check(&Buffers::old(memory), 1_000, 0, Stop::Halted, &counts, &page, &after);
 }
 
 #[test]
@@ -131,7 +133,7 @@ fn a_roll_that_fills() {
     let mut after = memory.clone();
     after.roll = Guarded::new([65, 65]);
     let page = ["00       2 mov LCD, 65            ", "01       2 jmp 0                  "];
-    check(&Buffers::old(memory), [99, 0], Stop::Full, &[(0, 2), (1, 2)], &page, &after);
+    check(&Buffers::old(memory), 99, 0, Stop::Full, &[(0, 2), (1, 2)], &page, &after);
 }
 
 #[test]
@@ -156,7 +158,7 @@ fn all_addresses_once_and_two_of_them_twice() {
     let counts: Vec<(u8, u32)> = (0..=255).map(|at| (at, if at < 2 { 2 } else { 1 })).collect();
     for length in [PAGE, PAGE + 1, 10_000] {
         let before = Buffers::with(memory.clone(), BANK, length);
-        check(&before, [258, 0], Stop::Spent, &counts, &page, &memory);
+        check(&before, 258, 0, Stop::Spent, &counts, &page, &memory);
     }
 }
 

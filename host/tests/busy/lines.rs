@@ -28,7 +28,7 @@ fn a_count_is_right_aligned_in_seven_columns() {
     let memory = Memory::with_words(&[[0xA0, 0x00]]);
     for (count, line) in JUMPS {
         let before = Buffers::old(memory.clone());
-        check(&before, [count, 0], Stop::Spent, &[(0, count)], &[line], &memory);
+        check(&before, count, 0, Stop::Spent, &[(0, count)], &[line], &memory);
     }
 }
 
@@ -70,5 +70,5 @@ fn counts_of_several_widths() {
     let counts = [&often[..], &rounds, &once].concat();
     let mut after = memory.clone();
     after.stack.inner_mut()[254] = 2;
-    check(&Buffers::old(memory), [1_000_000, 0], Stop::Halted, &counts, &page, &after);
+    check(&Buffers::old(memory), 1_000_000, 0, Stop::Halted, &counts, &page, &after);
 }

@@ -39,7 +39,7 @@ fn texts_are_left_aligned_without_what_is_hidden() {
     after.ram.inner_mut()[0] = 255;
     after.roll = Guarded::new([511, 7]);
     let counts: Vec<(u8, u32)> = (0..9).map(|at| (at, 1)).collect();
-    check(&Buffers::old(memory), [9, 0], Stop::Halted, &counts, &page, &after);
+    check(&Buffers::old(memory), 9, 0, Stop::Halted, &counts, &page, &after);
 }
 
 /// Runs one step of a word, with V settled and a roll that has room, and yields the page's line.

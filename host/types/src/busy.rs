@@ -6,9 +6,10 @@ use crate::Report;
 /// What a busy run is lent to record where its steps go.
 #[derive(Debug)]
 pub struct Records<'a> {
-    /// A counter for each address, set to how often it executed in the run.
+    /// A counter for each of the 256 addresses, set to how often it executed in the run.
     pub counters: &'a mut [u32],
-    /// The page, a line for each address executed; what lies past the lines is kept.
+    /// The page, [`PAGE`](crate::PAGE) bytes at least: a line for each address executed, and what
+    /// lies past the lines is kept.
     pub page: &'a mut [u8],
 }
 
