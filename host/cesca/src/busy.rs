@@ -5,7 +5,7 @@ use crate::text::bytes;
 use cesca_types::{BusyReport, Lent, Records, Refusal, Report, State, BANK, PAGE};
 use std::mem::MaybeUninit;
 
-/// What a busy run on a [`Board`](crate::Board) comes to: what it reports, and where its steps went.
+/// What a busy run on a [`Board`](crate::Board) comes to: its report, and where its steps went.
 #[derive(Clone, Debug, PartialEq, Eq)]
 pub struct Busy {
     /// What the run reports.
@@ -84,8 +84,8 @@ fn sized(refusal: Refusal, lengths: [usize; 2]) -> Refusal {
 mod tests {
     use super::*;
 
-    /// The refusal of a run of `nop`s with a bank and records of these lengths, from a key position,
-    /// once it has left what it was lent.
+    /// The refusal of a run of `nop`s with a bank and records of these lengths, from a key
+    /// position, once it has left what it was lent.
     fn refused(bank: usize, lengths: [usize; 2], position: usize, budget: u32) -> String {
         let nops = [0xFC; BANK];
         let (mut ram, mut stack, mut roll) = (vec![1; bank], [2; BANK], [3; 4]);

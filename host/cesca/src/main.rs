@@ -1,4 +1,4 @@
-//! The program `cesca`: assembles texts, draws sheets, admits listings, runs them, shows where their
+//! The program `cesca`: assembles texts, draws sheets, admits listings, runs them, tells where the
 //! steps went, shows their sheets and steps through them.
 
 mod program;

@@ -4,8 +4,8 @@ use crate::buffers::Buffers;
 use crate::runners::{Answer, RUNNERS};
 use cesca::State;
 
-/// What both busy runs answer and leave, once it is found to be alike; a refusal leaves all that was
-/// lent as it was.
+/// What both busy runs answer and leave, once it is found to be alike; a refusal leaves all that
+/// was lent as it was.
 pub fn compared(before: &Buffers, budget: u32, start: State) -> (Answer, Buffers) {
     let [(library, found), (reference, wanted)] =
         RUNNERS.map(|(_, runner)| before.lent(runner, budget, start));

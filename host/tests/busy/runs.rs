@@ -1,4 +1,5 @@
-//! Random busy runs, 60,000 and more: library and reference agree on all that they answer and leave.
+//! Random busy runs, 60,000 and more: library and reference agree on all that they answer and
+//! leave.
 
 use crate::buffers::Buffers;
 use crate::case::Case;

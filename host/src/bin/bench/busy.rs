@@ -43,8 +43,8 @@ fn steps_row(out: &mut impl Write, name: &str, program: &Listing) -> io::Result<
     writeln!(out, " {over_counted:10.3} {over_run:10.3}")
 }
 
-/// Prints the table of pages: what a busy run takes beyond the library's run of the same steps. That
-/// is the page, and what counting adds to the steps.
+/// Prints the table of pages: what a busy run takes beyond the library's run of the same steps.
+/// That is the page, and what counting adds to the steps.
 pub fn pages_table(out: &mut impl Write) -> io::Result<()> {
     writeln!(out, "pages of {BANK} lines, median of {REPETITIONS}; microseconds a busy run")?;
     writeln!(out, "{:18} {:>10} {:>10} {:>10}", "page", "steps", "busy", "less run")?;
