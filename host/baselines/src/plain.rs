@@ -2,13 +2,32 @@
 //! the opcode in one loop, and all of the state in locals.
 
 use crate::parts::{exchange, key, pop, push, send, Alu, Memory};
-use cesca_types::{Lent, Overflow, Refusal, Report, State, Stop};
+use cesca_types::{Lent, Overflow, Refusal, Report, State, Stop, BANK};
 use std::hint::cold_path;
 
 /// What a run of at most `budget` steps from `start` reports, or why there is none.
-#[expect(clippy::manual_range_patterns, reason = "ranges would be compared one by one")]
 pub fn run(lent: Lent<'_>, budget: u32, start: State) -> Result<Report, Refusal> {
     let memory = Memory::checked(lent, budget, start.position)?;
+    Ok(watched(memory, budget, start, |_| ()))
+}
+
+/// The same, with the counters set to how often each address executed; a refusal leaves them.
+pub fn run_counted(
+    lent: Lent<'_>,
+    counters: &mut [u32; BANK],
+    budget: u32,
+    start: State,
+) -> Result<Report, Refusal> {
+    let memory = Memory::checked(lent, budget, start.position)?;
+    counters.fill(0);
+    Ok(watched(memory, budget, start, |pc| counters[usize::from(pc)] += 1))
+}
+
+/// What a run reports, with the address of every step shown to `watch` once it is made. Inlined, so
+/// that a run which watches nothing pays nothing.
+#[expect(clippy::manual_range_patterns, reason = "ranges would be compared one by one")]
+#[inline(always)]
+fn watched(memory: Memory<'_>, budget: u32, start: State, mut watch: impl FnMut(u8)) -> Report {
     let Memory { opcodes, arguments, keys, ram, stack, roll } = memory;
     let State { mut regs, mut pc, mut sp, mut out, mut flags, mut halted, mut position } = start;
     let (length, mut room) = (roll.len(), roll.iter_mut());
@@ -84,11 +103,12 @@ pub fn run(lent: Lent<'_>, budget: u32, start: State) -> Result<Report, Refusal>
             0x3E => { halted = true; 2 }
             _ => 8,
         };
+        watch(pc);
         pc = next;
         cycles += taken;
         steps += 1;
     };
     let state = State { regs, pc, sp, out, flags, halted, position };
     let words = length - room.len();
-    Ok(Report { stop, steps, cycles, words, state })
+    Report { stop, steps, cycles, words, state }
 }

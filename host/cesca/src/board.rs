@@ -1,8 +1,9 @@
 //! A board with a listing keyed in.
 
+use crate::busy::{run_busy, Busy};
 use crate::calls::run;
 use crate::Listing;
-use cesca_types::{Lent, Refusal, Report, State, BANK};
+use cesca_types::{BusyReport, Lent, Records, Refusal, Report, State, BANK, LINE, PAGE};
 
 /// A board: its banks, its state and its roll.
 ///
@@ -57,18 +58,56 @@ impl Board {
     /// before, or those and more. A refusal changes nothing: 18 where the position is past the end
     /// of the keys, 19 where the budget is over [`MOST_STEPS`](crate::MOST_STEPS).
     pub fn run(&mut self, keys: &[u8], budget: u32) -> Result<Report, Refusal> {
-        let lent = Lent {
+        let start = self.state;
+        let report = run(self.lend(keys), budget, start)?;
+        self.go_on(&report);
+        Ok(report)
+    }
+
+    /// What the same run comes to that [`run`](Board::run) would make, with how often each address
+    /// executed in it and the page of them; or why there is none.
+    ///
+    /// The board is left as by [`run`](Board::run), and the same is refused.
+    ///
+    /// ```
+    /// # fn main() -> Result<(), Box<dyn std::error::Error>> {
+    /// let banks = cesca::assemble(b"mov R0, 3\nloop: dec R0\njnz loop\nhlt\n")?;
+    /// let listing = cesca::Listing::from_banks(banks.opcodes, banks.arguments)?;
+    /// let busy = listing.admit()?.board().run_busy(&[], 1_000)?;
+    /// assert_eq!((busy.report.steps, &busy.counters[..5]), (8, &[1, 3, 3, 1, 0][..]));
+    /// let lines: Vec<&str> = busy.page.lines().map(str::trim_end).collect();
+    /// assert_eq!(lines[..2], ["01       3 add R0, R0, 255", "02       3 jnz 1"]);
+    /// assert_eq!(lines[2..], ["00       1 mov R0, 3", "03       1 hlt"]);
+    /// # Ok(())
+    /// # }
+    /// ```
+    pub fn run_busy(&mut self, keys: &[u8], budget: u32) -> Result<Busy, Refusal> {
+        let start = self.state;
+        let (mut counters, mut page) = ([0; BANK], vec![0; PAGE]);
+        let records = Records { counters: &mut counters, page: &mut page };
+        let BusyReport { report, lines } = run_busy(self.lend(keys), records, budget, start)?;
+        self.go_on(&report);
+        page.truncate(lines * LINE);
+        let page = String::from_utf8(page).expect("the library writes ASCII");
+        Ok(Busy { report, counters, page })
+    }
+
+    /// What a run on the board is lent: the roll begins behind the words written before.
+    fn lend<'a>(&'a mut self, keys: &'a [u8]) -> Lent<'a> {
+        Lent {
             opcodes: &self.opcodes,
             arguments: &self.arguments,
             keys,
             ram: &mut self.data,
             stack: &mut self.stack,
             roll: &mut self.roll[self.words..],
-        };
-        let report = run(lent, budget, self.state)?;
+        }
+    }
+
+    /// Takes over what a run reports: the state reached, and the words behind those before.
+    fn go_on(&mut self, report: &Report) {
         self.state = report.state;
         self.words += report.words;
-        Ok(report)
     }
 
     /// What a run of one step reports, or why there is none.

@@ -97,8 +97,11 @@
 //! # }
 //! ```
 //!
-//! If you keep your own buffers, call [`assemble_into`], [`draw_into`], [`admit`] and [`run`] on
-//! them, and [`decode`], [`encode`] and [`put`] on single instructions:
+//! [`Board::run_busy`] tells where the steps of a run went: how often each address executed, and a
+//! page of them, the busiest first.
+//!
+//! If you keep your own buffers, call [`assemble_into`], [`draw_into`], [`admit`], [`run`] and
+//! [`run_busy`] on them, and [`decode`], [`encode`] and [`put`] on single instructions:
 //!
 //! ```
 //! use cesca::{Lent, State, Stop};
@@ -128,6 +131,7 @@
 
 mod admitted;
 mod board;
+mod busy;
 mod calls;
 mod draw;
 mod explain;
@@ -142,6 +146,7 @@ mod text;
 
 pub use admitted::Admitted;
 pub use board::Board;
+pub use busy::{run_busy, Busy};
 pub use calls::{admit, alu, decode, encode, facts, put, run, running_time};
 #[doc(inline)]
 pub use cesca_types::*;

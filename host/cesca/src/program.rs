@@ -4,6 +4,7 @@ mod admit;
 mod assemble;
 mod banks;
 mod bar;
+mod busy;
 mod commands;
 mod console;
 mod draw;

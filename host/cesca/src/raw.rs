@@ -1,6 +1,7 @@
 //! The library's exports as C sees them, and their answers read into this crate's words.
 
 pub mod admit;
+pub mod busy;
 pub mod draw;
 pub mod run;
 pub mod source;

@@ -9,6 +9,7 @@
 
 mod admission;
 mod alu;
+mod busy;
 mod desk;
 mod drawing;
 mod facts;
@@ -22,6 +23,7 @@ mod text;
 
 pub use admission::admit;
 pub use alu::{alu, Function};
+pub use busy::run_busy;
 pub use desk::desk;
 pub use drawing::{draw, hindrance, Hindrance};
 pub use form::Form;

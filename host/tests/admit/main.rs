@@ -10,6 +10,7 @@ mod drawn;
 mod explained;
 mod filled;
 mod lists;
+#[allow(dead_code)]
 #[path = "../common/memory.rs"]
 mod memory;
 mod outcomes;

@@ -95,4 +95,18 @@ impl Memory {
             roll: self.roll.inner_mut(),
         }
     }
+
+    /// The places, guards included, where these buffers aren't as wanted.
+    pub fn differences(&self, wanted: &Memory) -> String {
+        let buffers = [
+            ("opcodes", self.opcodes.differences(&wanted.opcodes)),
+            ("arguments", self.arguments.differences(&wanted.arguments)),
+            ("keys", self.keys.differences(&wanted.keys)),
+            ("ram", self.ram.differences(&wanted.ram)),
+            ("stack", self.stack.differences(&wanted.stack)),
+            ("roll", self.roll.differences(&wanted.roll)),
+        ];
+        let different = buffers.into_iter().filter(|(_, places)| !places.is_empty());
+        different.map(|(name, places)| format!("{name}: {}\n", places.join(", "))).collect()
+    }
 }

@@ -79,6 +79,18 @@ fn a_step_is_a_run_of_one() {
 }
 
 #[test]
+fn a_busy_run_counts_its_own_steps_alone() {
+    let mut board = busy();
+    let first = board.run_busy(&[1, 2], 7).expect("nothing to refuse");
+    assert_eq!((first.report.steps, &first.counters[..6]), (7, &[2, 2, 1, 1, 1, 0][..]));
+    let second = board.run_busy(&[1, 2], 2).expect("nothing to refuse");
+    assert_eq!((second.report.steps, &second.counters[..6]), (2, &[0, 0, 1, 1, 0, 0][..]));
+    let page = "02       1 mov LCD, 5             \n03       1 mov IN, Ack            \n";
+    assert_eq!(second.page, page);
+    assert_eq!(board.roll(), [5, 5]);
+}
+
+#[test]
 fn a_new_board() {
     let board = busy();
     assert_eq!(*board.state(), State::start());

@@ -3,7 +3,7 @@
 use crate::case::Case;
 use crate::memory::{Guarded, Memory};
 use crate::random::Random;
-use cesca::{run, Board, Lent, Listing, Refusal, Report, State, BANK, SHEET};
+use cesca::{run, Board, Busy, Lent, Listing, Refusal, Report, State, BANK, LINE, SHEET};
 
 /// A word that no transfer makes.
 const BLANK: u16 = 999;
@@ -32,7 +32,7 @@ impl Pair {
         Pair { board, memory, state: State::start(), words: 0 }
     }
 
-    /// What a run reports, on the board and by the call.
+    /// What a run reports, on the board and by the call, and on another board by a busy run.
     pub fn run(&mut self, keys: &[u8], budget: u32) -> Result<Report, Refusal> {
         let lent = self.memory.lend();
         let lent = Lent { keys, roll: &mut lent.roll[self.words..], ..lent };
@@ -46,7 +46,27 @@ impl Pair {
         assert_eq!(found, wanted, "budget {budget}");
         assert!(found.is_ok() || self.board == before, "a refusal changed the board");
         self.check();
+        self.check_busy(before, keys, budget, &found);
         found
+    }
+
+    /// Checks that a busy run on the board as it was reports the same and leaves the same board,
+    /// and that its counters and its page tell of as many steps and addresses.
+    fn check_busy(
+        &self,
+        mut board: Board,
+        keys: &[u8],
+        budget: u32,
+        wanted: &Result<Report, Refusal>,
+    ) {
+        let busy = board.run_busy(keys, budget);
+        assert_eq!(busy.as_ref().map(|busy| &busy.report), wanted.as_ref(), "budget {budget}");
+        assert!(board == self.board, "a busy run leaves another board");
+        if let Ok(Busy { report, counters, page }) = busy {
+            assert_eq!(counters.iter().sum::<u32>(), report.steps);
+            let executed = counters.iter().filter(|count| **count > 0).count();
+            assert_eq!((page.lines().count(), page.len()), (executed, executed * LINE));
+        }
     }
 
     /// Goes back to the start state.

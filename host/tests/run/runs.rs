@@ -1,7 +1,6 @@
 //! Random runs, the library and the machines it is measured by beside the reference.
 
 use crate::case::Case;
-use crate::memory::Memory;
 use crate::random::each_case;
 use crate::tally::Tally;
 use crate::Machine;
@@ -24,23 +23,9 @@ fn check(machine: Machine) {
         let found = machine(memory.lend(), budget, start);
         let inputs = || format!("budget {budget} from {start:?} with {before:?}");
         assert_eq!(found, wanted, "{}", inputs());
-        assert!(memory == wanted_memory, "{} {}", differences(&memory, &wanted_memory), inputs());
+        assert!(memory == wanted_memory, "{} {}", memory.differences(&wanted_memory), inputs());
     });
     tally.check();
-}
-
-/// The places of what was lent that differ.
-fn differences(found: &Memory, wanted: &Memory) -> String {
-    let buffers = [
-        ("opcodes", found.opcodes.differences(&wanted.opcodes)),
-        ("arguments", found.arguments.differences(&wanted.arguments)),
-        ("keys", found.keys.differences(&wanted.keys)),
-        ("ram", found.ram.differences(&wanted.ram)),
-        ("stack", found.stack.differences(&wanted.stack)),
-        ("roll", found.roll.differences(&wanted.roll)),
-    ];
-    let different = buffers.into_iter().filter(|(_, places)| !places.is_empty());
-    different.map(|(name, places)| format!("{name}: {}\n", places.join(", "))).collect()
 }
 
 #[test]

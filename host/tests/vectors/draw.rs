@@ -1,9 +1,9 @@
 //! Sheets drawn for members: the call of request 2.
 
 use crate::blocks::Block;
-use crate::buffers::Buffers;
 use crate::drawers::{Answer, DRAWERS};
 use crate::file::Outcome;
+use crate::sheets::Buffers;
 use crate::values::{bytes, number};
 
 /// Whether both drawers answer and leave what the case says.

@@ -1,7 +1,7 @@
 //! A file of cases, and which check each of them goes to.
 
 use crate::blocks::{blocks, Block};
-use crate::{draw, source};
+use crate::{busy, draw, source};
 
 /// Whether a case holds, or what is wrong.
 pub type Outcome = Result<(), String>;
@@ -13,13 +13,17 @@ type OfBlock = fn(&Block) -> Outcome;
 type OfLine = fn(&str) -> Outcome;
 
 /// The calls, each with its check.
-const CALLS: [(&str, OfBlock); 3] =
-    [("assemble", source::assemble), ("print", source::print), ("draw", draw::draw)];
+const CALLS: [(&str, OfBlock); 4] = [
+    ("assemble", source::assemble),
+    ("print", source::print),
+    ("draw", draw::draw),
+    ("run", busy::run),
+];
 
 /// The files in which each line is a case, by the beginning of their names, with its check.
 const LINES: [(&str, OfLine); 1] = [("words", source::word)];
 
-/// The outcomes of a file's cases, or of the file itself where it has none.
+/// The outcomes of a file's cases, or of the file itself where it has none and should have.
 pub fn outcomes(name: &str, text: &str) -> Vec<Outcome> {
     let of_lines = LINES.into_iter().find(|(start, _)| name.starts_with(start));
     let outcomes: Vec<Outcome> = match of_lines {
@@ -28,10 +32,15 @@ pub fn outcomes(name: &str, text: &str) -> Vec<Outcome> {
     };
     let outcomes: Vec<Outcome> =
         outcomes.into_iter().map(|outcome| outcome.map_err(named(name))).collect();
-    match outcomes.is_empty() {
+    match outcomes.is_empty() && !only_told(name, text) {
         true => vec![Err(format!("{name}: no case"))],
         false => outcomes,
     }
+}
+
+/// Whether a file tells of readings on which no case hangs: in comments.
+fn only_told(name: &str, text: &str) -> bool {
+    name.starts_with("readings") && text.lines().any(|line| line.starts_with('#'))
 }
 
 /// The outcome of a block.
@@ -81,6 +90,51 @@ mod tests {
         assert_eq!(outcome("a.txt", short, "refused: 2"), Ok(()));
     }
 
+    /// A busy run of `jmp 0`, but for its last line.
+    const JUMPS: &str = "case: a\ncall: run\nop: A0*256\narg: 00*256\ndata: 11*256\n\
+        stack: 22*256\nkeys: -\nroll: 7*2\nstate: 0 0 0 0 0 255 0 0 0 - 0 0 0\nbudget: 12\n\
+        counters: 5*256\npage: 23*8960\nstop: spent\nsteps: 12\ncycles: 36\nwords: 0\nlines: 1\n\
+        state-after: 0 0 0 0 0 255 0 0 0 - 0 0 0\ncounters-after: 12,0*255";
+
+    /// That line.
+    const PAGE: &str = "page-begins: 00      12 jmp 0                  \\n";
+
+    #[test]
+    fn busy_runs_that_hold() {
+        assert_eq!(outcome("a.txt", JUMPS, PAGE), Ok(()));
+        let (lent, _) = JUMPS.split_once("\nstop").expect("a stop");
+        let short = lent.replace("8960", "8959");
+        assert_eq!(outcome("a.txt", &short, "refused: 17"), Ok(()));
+    }
+
+    #[test]
+    fn busy_runs_that_do_not_hold() {
+        let wrong = |from: &str, to: &str| {
+            let case = JUMPS.replacen(from, to, 1);
+            assert_ne!(case, JUMPS, "{from:?}");
+            outcome("a.txt", &case, PAGE).is_err()
+        };
+        assert!(wrong("stop: spent", "stop: full"));
+        assert!(wrong("stop: spent", "stop: later"));
+        assert!(wrong("\nsteps: 12", "\nsteps: 11"));
+        assert!(wrong("cycles: 36", "cycles: 35"));
+        assert!(wrong("words: 0", "words: 1"));
+        assert!(wrong("lines: 1", "lines: 2"));
+        assert!(wrong("state-after: 0", "state-after: 1"));
+        assert!(wrong("after: 12,0*255", "after: 12,0*254,5"));
+        assert!(wrong("\ncounters-after: 12,0*255", ""));
+        assert!(wrong("\nlines: 1", "\nlines: 1\nroll-after: 7,8"));
+        assert!(wrong("\nlines: 1", "\nlines: 1\ndata-after: 12*256"));
+        assert!(wrong("\nlines: 1", "\nlines: 1\nstack-after: 12*256"));
+        assert!(wrong("\nlines: 1", "\nlines: 1\nrefused: 17"));
+        assert!(wrong("page: 23*8960", "page: 23*8959"));
+        for page in
+            ["page-begins: 00      12 jmp 0                 #\\n", "page-begins: ", "why: no"]
+        {
+            assert!(outcome("a.txt", JUMPS, page).is_err(), "{page}");
+        }
+    }
+
     #[test]
     fn cases_that_do_not_hold() {
         let wrong = |first: &str, last: &str| outcome("a.txt", first, last).is_err();
@@ -126,6 +180,8 @@ mod tests {
         let told = |name: &str, text: &str| outcomes(name, text).swap_remove(0).unwrap_err();
         assert_eq!(told("a.txt", "# none\n"), "a.txt: no case");
         assert_eq!(told("words.txt", ""), "words.txt: no case");
+        assert_eq!(told("readings.txt", "\n"), "readings.txt: no case");
+        assert_eq!(outcomes("readings.txt", "# 'A sentence.' Chosen: one.\n"), []);
         let call = "case: b\ncall: fly\n";
         assert_eq!(told("a.txt", call), "a.txt: b: no call \"fly\" is known");
         let key = "case: b\ncall: print\nform: ret\nfields: -\nprinted: ret\ncolour: red\n";

@@ -6,8 +6,9 @@
 mod banks;
 mod blocks;
 #[allow(dead_code)]
-#[path = "../draw/buffers.rs"]
+#[path = "../busy/buffers.rs"]
 mod buffers;
+mod busy;
 mod draw;
 #[path = "../draw/drawers.rs"]
 mod drawers;
@@ -15,6 +16,11 @@ mod file;
 #[allow(dead_code)]
 #[path = "../common/memory.rs"]
 mod memory;
+#[path = "../busy/runners.rs"]
+mod runners;
+#[allow(dead_code)]
+#[path = "../draw/buffers.rs"]
+mod sheets;
 #[path = "../source/sides.rs"]
 mod sides;
 mod source;
@@ -26,7 +32,7 @@ mod values;
 use stored::{names, path, text};
 
 /// The folders that must be there; any other that lies beside them is run too.
-const FOLDERS: [&str; 2] = ["01-text", "02-drawn"];
+const FOLDERS: [&str; 3] = ["01-text", "02-drawn", "03-busy"];
 
 /// The folders of cases that lie here.
 fn folders() -> Vec<String> {

@@ -1,5 +1,7 @@
 //! Values as the cases spell them.
 
+use cesca::{Flags, Overflow, State};
+
 /// The bytes of pieces joined by `+`: hexadecimal, and `*` with how often it stands; `-` is none.
 pub fn bytes(value: &str) -> Result<Vec<u8>, String> {
     if value == "-" {
@@ -53,6 +55,50 @@ pub fn number<T: std::str::FromStr>(value: &str) -> Result<T, String> {
     value.parse().map_err(|_| format!("{value:?} is no such number"))
 }
 
+/// The decimal numbers joined by commas, `7*3` standing for three of them; `-` is none.
+pub fn numbers<T: Clone + std::str::FromStr>(value: &str) -> Result<Vec<T>, String> {
+    if value == "-" {
+        return Ok(Vec::new());
+    }
+    let pieces = value.split(',').map(|piece| {
+        let (digits, times) = piece.split_once('*').unwrap_or((piece, "1"));
+        Ok(vec![number(digits)?; number(times)?])
+    });
+    pieces.collect::<Result<Vec<Vec<T>>, String>>().map(|pieces| pieces.concat())
+}
+
+/// The state with these numbers: the registers, PC, SP and OUT, the flags Z, C, V and S, whether it
+/// is halted, the position. V is `-` where it is unsettled.
+pub fn state(value: &str) -> Result<State, String> {
+    let parts: Vec<&str> = value.split(' ').collect();
+    let [r0, r1, r2, r3, pc, sp, out, z, c, v, s, halted, position] = parts[..] else {
+        return Err(format!("{value:?} is no state"));
+    };
+    let v = match v {
+        "-" => Overflow::Unsettled,
+        _ if flag(v)? => Overflow::Set,
+        _ => Overflow::Clear,
+    };
+    Ok(State {
+        regs: [number(r0)?, number(r1)?, number(r2)?, number(r3)?],
+        pc: number(pc)?,
+        sp: number(sp)?,
+        out: number(out)?,
+        flags: Flags { z: flag(z)?, c: flag(c)?, s: flag(s)?, v },
+        halted: flag(halted)?,
+        position: number(position)?,
+    })
+}
+
+/// Whether a flag is 1.
+fn flag(value: &str) -> Result<bool, String> {
+    match value {
+        "0" => Ok(false),
+        "1" => Ok(true),
+        _ => Err(format!("{value:?} is no flag")),
+    }
+}
+
 #[cfg(test)]
 mod tests {
     use super::*;
@@ -74,6 +120,30 @@ mod tests {
         assert_eq!(text(""), Ok(vec![]));
         for wrong in ["\\", "\\x", "\\x0", "\\xG0", "\\t", "\\xé"] {
             assert!(text(wrong).is_err(), "{wrong}");
+        }
+    }
+
+    #[test]
+    fn numbers_are_repeated_and_joined() {
+        assert_eq!(numbers("1,0*3,4294967295"), Ok(vec![1, 0, 0, 0, u32::MAX]));
+        assert_eq!(numbers::<u16>("-"), Ok(vec![]));
+        for wrong in ["", "1,", "1*", "1*x", "65536", "-1", "1 2", "1*2*3"] {
+            assert!(numbers::<u16>(wrong).is_err(), "{wrong}");
+        }
+    }
+
+    #[test]
+    fn states_are_read() {
+        let start = State::start();
+        assert_eq!(state("0 0 0 0 0 255 0 0 0 - 0 0 0"), Ok(start));
+        let flags = Flags { z: true, c: false, s: false, v: Overflow::Set };
+        let other =
+            State { regs: [1, 2, 3, 4], pc: 5, sp: 6, out: 7, flags, halted: true, ..start };
+        assert_eq!(state("1 2 3 4 5 6 7 1 0 1 0 1 8"), Ok(State { position: 8, ..other }));
+        let flags = Flags { z: false, c: true, s: true, v: Overflow::Clear };
+        assert_eq!(state("0 0 0 0 0 255 0 0 1 0 1 0 0"), Ok(State { flags, ..start }));
+        for wrong in ["", "0 0 0 0 0 255 0 0 0 - 0 0", "0 0 0 0 0 255 0 - 0 0 0 0 0", "-"] {
+            assert!(state(wrong).is_err(), "{wrong}");
         }
     }
 }

@@ -4,6 +4,7 @@
 #![warn(missing_docs)]
 
 mod answers;
+mod busy;
 mod drawing;
 mod limits;
 mod machine;
@@ -11,8 +12,9 @@ mod refusal;
 mod source;
 
 pub use answers::{AluAnswer, Class, Effect, Facts, Fields, Overflow};
+pub use busy::{BusyReport, Records};
 pub use drawing::Drawing;
-pub use limits::{BANK, MOST_LIST, MOST_READ, MOST_ROUTINES, SHEET};
+pub use limits::{BANK, LINE, MOST_LIST, MOST_READ, MOST_ROUTINES, PAGE, SHEET};
 pub use limits::{FASTEST_CLOCK, MOST_CYCLES, MOST_STEPS};
 pub use machine::{Flags, Lent, Report, State, Stop};
 pub use refusal::Refusal;

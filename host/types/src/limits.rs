@@ -18,6 +18,12 @@ pub const MOST_READ: usize = 2 * BANK + SHEET + MOST_LIST + 1;
 /// The most steps that a run may be given.
 pub const MOST_STEPS: u32 = 1_000_000;
 
+/// The bytes of a line of the page of busy addresses: 34 characters and a line feed.
+pub const LINE: usize = 35;
+
+/// The least bytes of a page's buffer: room for a line for each address.
+pub const PAGE: usize = BANK * LINE;
+
 /// The fastest clock that a time is told for, in Hz.
 pub const FASTEST_CLOCK: u32 = 1_000_000;
 

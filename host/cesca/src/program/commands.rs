@@ -3,7 +3,7 @@
 use super::console::Console;
 use super::failure::Failure;
 use super::options::Options;
-use super::{admit, assemble, draw, file, print, run, sheet, step};
+use super::{admit, assemble, busy, draw, file, print, run, sheet, step};
 use std::ops::RangeInclusive;
 
 /// A command.
@@ -31,7 +31,7 @@ impl Command {
 }
 
 /// The commands, in the order of the help.
-pub static COMMANDS: [Command; 8] = [
+pub static COMMANDS: [Command; 9] = [
     Command {
         name: "admit",
         files: "FILE..",
@@ -54,6 +54,19 @@ pub static COMMANDS: [Command; 8] = [
             "0.7 to 668 Hz.",
         ],
         run: run::run,
+    },
+    Command {
+        name: "busy",
+        files: "FILE",
+        number: 1..=1,
+        options: &[("--keys", "1,2,3"), ("--steps", "N"), ("--hz", "N")],
+        about: &[
+            "Runs an admitted listing as `cesca run` does, and shows where the steps",
+            "went: behind what `cesca run` tells, a line for each address that executed,",
+            "the largest count first, equal counts by lower address. A line has the",
+            "address in hexadecimal, how often it executed, and the instruction.",
+        ],
+        run: busy::busy,
     },
     Command {
         name: "sheet",

@@ -7,12 +7,12 @@ use std::mem::MaybeUninit;
 /// A run's answer: 0 and the report, or a ground's number, zeros and the state lent.
 #[repr(C)]
 pub struct RunNumbers {
-    number: u8,
-    stop: u8,
-    steps: u32,
-    cycles: u32,
-    words: usize,
-    state: State,
+    pub(super) number: u8,
+    pub(super) stop: u8,
+    pub(super) steps: u32,
+    pub(super) cycles: u32,
+    pub(super) words: usize,
+    pub(super) state: State,
 }
 
 /// A running time's answer: 0 and the tenths of a second, or a ground's number and 0.
@@ -129,4 +129,4 @@ fn stop(number: u8) -> Stop {
 }
 
 #[cfg(test)]
-mod tests;
+pub(super) mod tests;

@@ -3,6 +3,7 @@
 
 mod admit;
 mod assemble;
+mod busy;
 mod draw;
 mod file;
 mod pipes;

@@ -25,6 +25,7 @@ fn a_closed_pipe_ends_every_command_quietly() {
         (&["help"][..], 0),
         (&["admit", "pushes.bin", "pushes.bin"], 0),
         (&["run", "pushes.bin"], 0),
+        (&["busy", "pushes.bin"], 0),
         (&["sheet", "pushes.bin"], 0),
         (&["sheet", "masked.bin"], 1),
         (&["step", "pushes.bin"], 0),

@@ -60,6 +60,12 @@ fn printed(sandbox: &Sandbox, typed: &str) -> String {
     ran(shell.env("PATH", path).output().expect("a shell")).out
 }
 
+/// A text without the spaces that end its lines: README doesn't show them.
+fn trimmed(text: &str) -> String {
+    let lines: Vec<&str> = text.split('\n').map(|line| line.trim_end_matches(' ')).collect();
+    lines.join("\n")
+}
+
 #[test]
 fn what_is_typed_prints_what_is_shown() {
     let readme = fs::read_to_string(root().join("README.md")).expect("README");
@@ -72,8 +78,14 @@ fn what_is_typed_prints_what_is_shown() {
     let sessions = sessions(section);
     assert!(sessions.len() >= 15, "only {} sessions are seen", sessions.len());
     for (typed, shown) in sessions {
-        assert_eq!(printed(&sandbox, &typed), shown, "{typed}");
+        assert_eq!(trimmed(&printed(&sandbox, &typed)), shown, "{typed}");
     }
+}
+
+#[test]
+fn spaces_that_end_a_line_are_not_shown() {
+    assert_eq!(trimmed("a \n b  c   \n\n \nd"), "a\n b  c\n\n\nd");
+    assert_eq!(trimmed("a\t\n"), "a\t\n");
 }
 
 #[test]

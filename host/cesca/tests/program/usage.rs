@@ -3,9 +3,10 @@
 use crate::sandbox::{expect_err, expect_out, Sandbox};
 
 /// The usage lines of the commands.
-const COMMANDS: [&str; 9] = [
+const COMMANDS: [&str; 10] = [
     "cesca admit FILE..",
     "cesca run FILE [--keys 1,2,3] [--steps N] [--hz N]",
+    "cesca busy FILE [--keys 1,2,3] [--steps N] [--hz N]",
     "cesca sheet FILE",
     "cesca step FILE [--keys 1,2,3]",
     "cesca assemble SOURCE [BANKS]",
@@ -42,6 +43,7 @@ fn help_tells_limits_and_standard_input() {
     let help = help.split_whitespace().collect::<Vec<_>>().join(" ");
     for told in [
         "With --hz N, the time at this clock is told; N is whole, 1 to 1,000,000.",
+        "A line has the address in hexadecimal, how often it executed, and the instruction.",
         "SOURCE may have macros and labels, as in loop: inc R0 and jmp loop.",
         "Numbers are decimal, 0 to 255, or 0x and two hexadecimal digits: 28 is 0x1C too.",
         "- is standard input (not for `cesca step`, which reads its steps there)",
@@ -57,13 +59,13 @@ fn no_command() {
     check(
         &[],
         "a command is missing",
-        "cesca admit|run|sheet|step|assemble|draw|print|file|help ..",
+        "cesca admit|run|busy|sheet|step|assemble|draw|print|file|help ..",
     );
 }
 
 #[test]
 fn other_commands() {
-    let usage = "cesca admit|run|sheet|step|assemble|draw|print|file|help ..";
+    let usage = "cesca admit|run|busy|sheet|step|assemble|draw|print|file|help ..";
     check(&["mine.bin"], "there is no command mine.bin", usage);
     check(&["Admit", "a.bin"], "there is no command Admit", usage);
     check(&["--keys", "1"], "there is no command --keys", usage);
@@ -72,11 +74,13 @@ fn other_commands() {
 
 #[test]
 fn too_few_or_too_many_files() {
-    let [admit, run, sheet, step, assemble, draw, print, file, _] = COMMANDS;
+    let [admit, run, busy, sheet, step, assemble, draw, print, file, _] = COMMANDS;
     check(&["admit"], "admit takes FILE..", admit);
     check(&["run"], "run takes FILE", run);
     check(&["run", "--steps", "5"], "run takes FILE", run);
     check(&["run", "a.bin", "a.bin"], "run takes FILE", run);
+    check(&["busy"], "busy takes FILE", busy);
+    check(&["busy", "a.bin", "page.txt"], "busy takes FILE", busy);
     check(&["sheet"], "sheet takes FILE", sheet);
     check(&["sheet", "a.bin", "a.bin"], "sheet takes FILE", sheet);
     check(&["step"], "step takes FILE", step);
@@ -93,11 +97,12 @@ fn too_few_or_too_many_files() {
 
 #[test]
 fn other_options() {
-    let [admit, run, sheet, step, assemble, draw, print, file, _] = COMMANDS;
+    let [admit, run, busy, sheet, step, assemble, draw, print, file, _] = COMMANDS;
     check(&["admit", "--keys", "1", "a.bin"], "admit has no option --keys", admit);
     check(&["run", "a.bin", "--clock", "5"], "run has no option --clock", run);
     check(&["run", "a.bin", "--hz=5"], "run has no option --hz=5", run);
     check(&["run", "a.bin", "-k", "5"], "run has no option -k", run);
+    check(&["busy", "a.bin", "--lines", "5"], "busy has no option --lines", busy);
     check(&["sheet", "--", "a.bin"], "sheet has no option --", sheet);
     check(&["step", "a.bin", "--steps", "5"], "step has no option --steps", step);
     check(&["assemble", "-o", "b", "a"], "assemble has no option -o", assemble);
@@ -108,7 +113,7 @@ fn other_options() {
 
 #[test]
 fn values_that_are_wrong() {
-    let [_, run, _, step, ..] = COMMANDS;
+    let [_, run, busy, _, step, ..] = COMMANDS;
     check(&["run", "a.bin", "--steps"], "--steps lacks its value", run);
     for value in ["", "five", "+5", "-5", "0x10", "1,000", "5.0"] {
         let reason = format!("--steps {value:?} is no number");
@@ -122,6 +127,7 @@ fn values_that_are_wrong() {
         check(&["step", "a.bin", "--keys", &format!("1,{value},2")], &reason, step);
     }
     check(&["step", "a.bin", "--keys"], "--keys lacks its value", step);
+    check(&["busy", "a.bin", "--steps", "all"], "--steps \"all\" is no number", busy);
     let twice = ["run", "--hz", "5", "a.bin", "--hz", "5"];
     check(&twice, "--hz is given twice", run);
 }

@@ -66,12 +66,12 @@ fn put(program: &mut Program, at: u8, [opcode, argument]: [u8; 2]) {
 }
 
 /// The numbers below this one, in their order.
-fn upwards(count: u8) -> Vec<u8> {
+pub fn upwards(count: u8) -> Vec<u8> {
     (0..count).collect()
 }
 
 /// 0, and then the others from the highest.
-fn downwards(count: u8) -> Vec<u8> {
+pub fn downwards(count: u8) -> Vec<u8> {
     [0].into_iter().chain((1..count).rev()).collect()
 }
 
@@ -82,7 +82,7 @@ fn to_and_fro(count: u8) -> Vec<u8> {
 }
 
 /// 0, and then the others by steps of a prime, so that they go all over the place.
-fn mixed(count: u8) -> Vec<u8> {
+pub fn mixed(count: u8) -> Vec<u8> {
     (0..count).map(|step| (u32::from(step) * 37 % u32::from(count)) as u8).collect()
 }
 

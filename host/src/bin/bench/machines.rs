@@ -1,8 +1,8 @@
-//! The three machines on one program, each with buffers of its own.
+//! The machines on one program, each with buffers of its own.
 
 use crate::timing::{medians, timed};
 use baselines::{plain, predecoded};
-use cesca::{run, Lent, Refusal, Report, State, BANK};
+use cesca::{run, run_busy, Lent, Records, Refusal, Report, State, BANK, PAGE};
 use reference::Listing;
 use std::hint::black_box;
 
@@ -10,9 +10,9 @@ use std::hint::black_box;
 const ROLL: usize = 100_000;
 
 /// A machine: what a run reports, or why it is refused.
-pub trait Machine: Fn(Lent<'_>, u32, State) -> Result<Report, Refusal> {}
+pub trait Machine: FnMut(Lent<'_>, u32, State) -> Result<Report, Refusal> {}
 
-impl<M: Fn(Lent<'_>, u32, State) -> Result<Report, Refusal>> Machine for M {}
+impl<M: FnMut(Lent<'_>, u32, State) -> Result<Report, Refusal>> Machine for M {}
 
 /// A machine with a program and the buffers of its runs, never cleared between them.
 pub struct Bench<'a, M> {
@@ -56,6 +56,24 @@ pub fn in_turn(program: &Listing, budget: u32, runs: u32) -> Turns {
 /// The library with a program.
 pub fn library(program: &Listing) -> Bench<'_, impl Machine> {
     Bench::new(run, program)
+}
+
+/// The library with a program, counting its addresses and writing the page.
+pub fn busy(program: &Listing) -> Bench<'_, impl Machine> {
+    let (mut counters, mut page) = ([0; BANK], vec![0; PAGE]);
+    let machine = move |lent: Lent<'_>, budget, start| {
+        let records = Records { counters: &mut counters, page: &mut page };
+        run_busy(lent, records, budget, start).map(|busy| busy.report)
+    };
+    Bench::new(machine, program)
+}
+
+/// The plain machine with a program, counting its addresses.
+pub fn counted(program: &Listing) -> Bench<'_, impl Machine> {
+    let mut counters = [0; BANK];
+    let machine =
+        move |lent: Lent<'_>, budget, start| plain::run_counted(lent, &mut counters, budget, start);
+    Bench::new(machine, program)
 }
 
 impl<'a, M: Machine> Bench<'a, M> {

@@ -1,9 +1,10 @@
-//! Speed of the library: runs beside two machines in Rust, admissions, assemblies and drawings beside
-//! the reference, and how all of them grow.
+//! Speed of the library: runs beside two machines in Rust, busy runs beside one that counts,
+//! admissions, assemblies and drawings beside the reference, and how all of them grow.
 
 mod admissions;
 mod assemblies;
 mod banks;
+mod busy;
 mod columns;
 mod drawings;
 mod growth;
@@ -43,6 +44,8 @@ fn tables(out: &mut impl Write) -> io::Result<()> {
         short::table,
         growth::steps_table,
         growth::routines_table,
+        busy::steps_table,
+        busy::pages_table,
         admissions::table,
         assemblies::table,
         assemblies::growth_table,

@@ -21,7 +21,7 @@ fn run_of(opcodes: &[u8], arguments: &[u8], budget: u32, start: MaybeUninit<Stat
 }
 
 /// The start state with this number for V.
-fn with_v(v: u8) -> MaybeUninit<State> {
+pub fn with_v(v: u8) -> MaybeUninit<State> {
     let mut start = MaybeUninit::new(State::start());
     // SAFETY: the pointer is to the one byte of V, within the state.
     unsafe { (&raw mut (*start.as_mut_ptr()).flags.v).cast::<u8>().write(v) };
