@@ -67,7 +67,7 @@ fn no_export_asks_anything() {
     let crates = crates();
     let sources: Vec<Source> = crates.iter().flat_map(|name| below(name, "src", ".rt")).collect();
     let exports = sources.iter().flat_map(|source| functions(&source.text));
-    assert!(exports.filter(|function| function.exported).count() >= 11, "exports are missed");
+    assert!(exports.filter(|function| function.exported).count() >= 12, "exports are missed");
     expect_none(sources.iter().flat_map(exports_that_ask).collect());
 }
 
