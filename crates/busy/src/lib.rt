@@ -1,5 +1,5 @@
 // The export for busy runs, in an archive apart from the other exports: the step has one caller, as in
-// `runs`, and is held in the observed loop.
+// `runs`, and is inlined into the observed loop.
 use busy_runs::PAGE_SIZE;
 use model::Answer;
 use model::Precheck;

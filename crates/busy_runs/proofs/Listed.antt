@@ -10,7 +10,8 @@ use lib.ListN.{length, List·getD-eq-default}
 use borrow.Author.Tests.{ltb-true, ltb-false, lt-ltb, eqb-true, eqb-false}
 use Rattle.slices.specs.Sizes.{bankSize}
 use Rattle.slices.proofs.Bools.{by-test}
-use Rattle.executions.specs.Executed.{timesIn, countersOf, Addresses}
+use Rattle.executions.specs.Executed.{timesIn, countersOf}
+use Rattle.executions.specs.internal.Addresses.{Addresses}
 use Rattle.executions.proofs.Counting.{counter-at, counters-length}
 use Rattle.ranking.specs.Busier.{countAt}
 use Rattle.ranking.specs.Ranking.{In}

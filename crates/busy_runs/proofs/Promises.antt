@@ -16,15 +16,15 @@ use Rattle.model.specs.declared.Precheck.{Precheck}
 use Rattle.model.specs.declared.Precheck.the-variants.{Passed, Failed}
 use Rattle.model.specs.declared.Refusal.the-variants.{BadBank}
 use Rattle.model.proofs.Promises.{precheckNumber, first-named, passed-call, failed-call, passed-budget}
-use Rattle.executions.specs.Executed.{countersOf, sumOf, Addresses}
+use Rattle.executions.specs.Executed.{countersOf, totalOf}
+use Rattle.executions.specs.internal.Addresses.{Addresses}
 use Rattle.executions.proofs.Counting.{counters-add-up}
 use Rattle.executions.proofs.Steps.{executed-fits, executed-steps}
 use Rattle.ranking.specs.Busier.{countAt}
 use Rattle.ranking.specs.internal.Selection.{rankedBy}
 use Rattle.ranking.proofs.Order.{busier-order, ranked-ranking, ranked-short}
 use Rattle.ranking.proofs.Ranks.{one-ranking}
-use Rattle.busy_runs.specs.Busy as busy
-use Rattle.busy_runs.specs.Busy.{Records, records, BusyOutcome, busyOutcome, countersNumber, pageSize, badRecords, busyCauses, busyRefusalOf, executed, stepsOf, BusyRan, BusyBy, BusyPromise}
+use Rattle.busy_runs.specs.Busy.{Records, records, BusyOutcome, busyOutcome, countersNumber, pageSize, badRecords, busyCauses, busyRefusalOf, executed, stepsOf, BusyPage, BusyRan, BusyBy, BusyPromise}
 use Rattle.busy_runs.specs.Lines.{linesOf}
 use Rattle.busy_runs.specs.internal.Writing.{PageWritten}
 use Rattle.busy_runs.proofs.Listed.{counts-few, listed-executed, executed-listed}
@@ -38,7 +38,7 @@ module _ (c : Call) (fits : c .budget ≤ maxBudget) (bytes : Addresses (execute
   few a = omega (arith, counts-few (executed c) a, executed-fits (c .setting) (c .budget) (machineOf c), fits)
 
   pub page-is : {page₀ page′ : List ℕ} {lines : ℕ} → pageSize ≤ length page₀ → PageWritten (c .setting .program) counters page₀ lines page′
-      → busy.Page c counters page₀ lines page′
+      → BusyPage c counters page₀ lines page′
   page-is {page₀} {page′} {lines} room w =
       let p = c .setting .program in
       let l = rankedBy counters in
@@ -66,12 +66,12 @@ module _ (c : Call) (fits : c .budget ≤ maxBudget) (bytes : Addresses (execute
         run = ran;
         counters = counted;
         sum =
-            ap sumOf counted
+            ap totalOf counted
             ∙ counters-add-up (executed c) bytes
             ∙ sym (executed-steps (c .setting) (c .budget) (machineOf c) refl)
             ∙ ap (λ (x : Outcome). stepsOf (x .answer)) (sym ran);
         page =
-            subst (λ (l : List ℕ). busy.Page c l (k .page) lines page′) (sym counted)
+            subst (λ (l : List ℕ). BusyPage c l (k .page) lines page′) (sym counted)
             (page-is room (subst (λ (l : List ℕ). PageWritten (c .setting .program) l (k .page) lines page′) counted written));
       }
 

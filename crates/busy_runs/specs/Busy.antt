@@ -13,7 +13,7 @@ use Rattle.model.specs.declared.Answer.the-variants.{Refused, Ran}
 use Rattle.model.specs.declared.Precheck.{Precheck}
 use Rattle.model.specs.declared.Precheck.the-variants.{Passed, Failed}
 use Rattle.model.specs.declared.Refusal.the-variants.{BadBank}
-use Rattle.executions.specs.Executed.{executedOf, countersOf, sumOf}
+use Rattle.executions.specs.Executed.{executedOf, countersOf, totalOf}
 use Rattle.ranking.specs.Busier.{isExecuted, busier}
 use Rattle.ranking.specs.Ranking.{StrictOrder, In, Ranking}
 use Rattle.busy_runs.specs.Lines.{lineOf, linesOf}
@@ -68,7 +68,7 @@ abbrev pub stepsOf : Answer → ℕ
 stepsOf (Refused r) = 0
 stepsOf (Ran y steps cycles words) = steps
 
-pub record Page (c : Call) (counters page₀ : List ℕ) (lines : ℕ) (page : List ℕ) : Type 0 where
+pub record BusyPage (c : Call) (counters page₀ : List ℕ) (lines : ℕ) (page : List ℕ) : Type 0 where
   -- the addresses of the lines
   pub addresses : List ℕ
   -- "Largest count first, equal counts by lower address": a strict total order
@@ -92,9 +92,9 @@ pub record BusyRan (c : Call) (k : Records) (o : BusyOutcome) : Type 0 where
   -- "set to how often each address executed in that run"
   pub counters : o .records .counters ≡ countersOf (executed c)
   -- "they add up to its steps"
-  pub sum : sumOf (o .records .counters) ≡ stepsOf (o .run .answer)
+  pub sum : totalOf (o .records .counters) ≡ stepsOf (o .run .answer)
   -- "The run writes the page too"
-  pub page : Page c (o .records .counters) (k .page) (o .lines) (o .records .page)
+  pub page : BusyPage c (o .records .counters) (k .page) (o .lines) (o .records .page)
 
 -- ---- the whole outcome
 

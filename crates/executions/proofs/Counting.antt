@@ -11,7 +11,8 @@ use lib.Seq.{getD-set-same, getD-set-other, ext-getD}
 use borrow.Author.Tests.{eqb-true, eqb-false}
 use Rattle.slices.specs.Sizes.{bankSize}
 use Rattle.slices.proofs.Bools.{by-test}
-use Rattle.executions.specs.Executed.{timesIn, tableFrom, countersOf, Addresses, sumOf}
+use Rattle.executions.specs.Executed.{timesIn, tableFrom, countersOf, totalOf}
+use Rattle.executions.specs.internal.Addresses.{Addresses}
 
 -- counters after one more execution of an address
 abbrev pub counted : List ℕ → ℕ → List ℕ
@@ -80,23 +81,23 @@ counters-length l = table-length (timesIn l) 0 bankSize
 
 -- ---- the sum
 
-sum-set : (c : List ℕ) (a : ℕ) → a < length c → sumOf (counted c a) ≡ sumOf c + 1
+sum-set : (c : List ℕ) (a : ℕ) → a < length c → totalOf (counted c a) ≡ totalOf c + 1
 sum-set [] a h = absurd (not-suc-le-zero h)
 sum-set (x ∷ c) zero h = omega arith
-sum-set (x ∷ c) (suc a) h = let i : sumOf (counted c a) ≡ sumOf c + 1 = sum-set c a (le-of-suc-le-suc h) in omega arith
+sum-set (x ∷ c) (suc a) h = let i : totalOf (counted c a) ≡ totalOf c + 1 = sum-set c a (le-of-suc-le-suc h) in omega arith
 
-sum-all : (l c : List ℕ) → length c ≡ bankSize → Addresses l → sumOf (countAll l c) ≡ sumOf c + length l
+sum-all : (l c : List ℕ) → length c ≡ bankSize → Addresses l → totalOf (countAll l c) ≡ totalOf c + length l
 unfolding countAll
-sum-all [] c h b = sym (add-zero (sumOf c))
+sum-all [] c h b = sym (add-zero (totalOf c))
 sum-all (a ∷ l) c h b =
     let k : a < length c = rw h (b .0) in
-    let s : sumOf (counted c a) ≡ sumOf c + 1 = sum-set c a k in
-    let t : sumOf (countAll l (counted c a)) ≡ sumOf (counted c a) + length l = sum-all l (counted c a) (length-set c a (getD c a 0 + 1) ∙ h) (b .1) in
+    let s : totalOf (counted c a) ≡ totalOf c + 1 = sum-set c a k in
+    let t : totalOf (countAll l (counted c a)) ≡ totalOf (counted c a) + length l = sum-all l (counted c a) (length-set c a (getD c a 0 + 1) ∙ h) (b .1) in
     omega arith
 
 -- [3]: "they add up to its steps"
-pub counters-add-up : (l : List ℕ) → Addresses l → sumOf (countersOf l) ≡ length l
+pub counters-add-up : (l : List ℕ) → Addresses l → totalOf (countersOf l) ≡ length l
 counters-add-up l b =
-    ap sumOf (sym (counts-are l))
+    ap totalOf (sym (counts-are l))
     ∙ sum-all l (replicate bankSize 0) (length-replicate {A = ℕ} bankSize 0) b
     ∙ zero-add (length l)

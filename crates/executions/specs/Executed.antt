@@ -1,6 +1,6 @@
 -- 02 [3]: "256 counters of 32 bits, set to how often each address executed in that run; they add up to its steps".
 -- Assumes nothing.
-use Prim.Native.Nat.{ℕ, zero, suc, _+_, _<_}
+use Prim.Native.Nat.{ℕ, zero, suc, _+_}
 use mathlib.Core.Bool.{cond}
 use mathlib.Core.List.{List, [], _∷_}
 use lib.Dec.{eqb}
@@ -32,11 +32,6 @@ unfoldable pub countersOf : List ℕ → List ℕ
 countersOf executed = tableFrom (timesIn executed) 0 bankSize
 
 -- "they add up to"
-abbrev pub sumOf : List ℕ → ℕ
-sumOf [] = 0
-sumOf (x ∷ l) = x + sumOf l
-
--- each of a row is an address
-abbrev pub Addresses : List ℕ → Type 0
-Addresses [] = Unit {0}
-Addresses (a ∷ l) = (a < bankSize) × Addresses l
+abbrev pub totalOf : List ℕ → ℕ
+totalOf [] = 0
+totalOf (x ∷ l) = x + totalOf l

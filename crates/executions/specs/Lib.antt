@@ -1,1 +1,2 @@
 pub mod Executed
+pub mod internal

@@ -13,7 +13,8 @@ use borrow.Author.Tests.{eqb-true, eqb-false, ltb-true, ltb-false}
 use Rattle.slices.specs.Sizes.{bankSize}
 use Rattle.slices.proofs.Bools.{by-test}
 use Rattle.slices.proofs.Lookup.{zeros}
-use Rattle.pages.specs.Page.{Page, page, putOf, writeOf}
+use Rattle.pages.specs.Page.{Page, page, writeOf}
+use Rattle.pages.proofs.Pages.{write-one}
 use Rattle.model.specs.Run.{Outcome, ended, reported, runOf, maxBudget}
 use Rattle.model.specs.Step.{Setting, Machine, machineAt}
 use Rattle.model.specs.declared.State.{State}
@@ -23,7 +24,8 @@ use Rattle.model.specs.declared.Verdict.{Verdict}
 use Rattle.model.specs.declared.Verdict.the-variants.{Go, Stopped}
 use Rattle.stepping.proofs.Attempts.{Attempted}
 use Rattle.machine.proofs.RunLoop.{LoopInvariant, loop-starts, loop-goes, loop-stops, loop-halts, loop-ends}
-use Rattle.executions.specs.Executed.{executedOf, Addresses}
+use Rattle.executions.specs.Executed.{executedOf}
+use Rattle.executions.specs.internal.Addresses.{Addresses}
 use Rattle.executions.proofs.Counting.{counted, countAll, count-none, count-one, counts-are}
 use Rattle.executions.proofs.Steps.{executed-goes, executed-stops, executed-none, executed-halted}
 use Rattle.observation.specs.internal.Observed.{Noted, Observed}
@@ -55,10 +57,6 @@ observing-starts x budget m counters log z w q =
 nothing-written : (q : Page) → writeOf [] q ≡ q
 unfolding writeOf
 nothing-written q = refl
-
-one-written : (a : ℕ) (l : List ℕ) (q : Page) → writeOf (a ∷ l) q ≡ writeOf l (putOf a q)
-unfolding writeOf
-one-written a l q = refl
 
 few-more : (c : List ℕ) (a k : ℕ) → ((i : ℕ) → getD c i 0 ≤ k) → (i : ℕ) → getD (counted c a) i 0 ≤ k + 1
 few-more c a k f i =
@@ -137,7 +135,7 @@ module _ {x : Setting} {budget : ℕ} {m₀ : Machine} {counters₀ log₀ : Lis
               ∙ g .counts;
           notes =
               ap (writeOf behind) (w .logged)
-              ∙ sym (one-written (s .pc) behind log)
+              ∙ sym (write-one (s .pc) behind log)
               ∙ sym (ap (λ (l : List ℕ). writeOf l log) rest)
               ∙ g .notes;
           addresses = λ b. g .addresses (subst (λ (l : List ℕ). Addresses l) (sym rest) (w .address, b));

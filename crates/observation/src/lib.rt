@@ -38,9 +38,9 @@ fn note(counters: &mut [u32], log: &mut [u8], noted: usize, a: u8) -> usize
     put(log, noted, a)
 }
 
-// The steps of a budget up to the first stop, as a run makes them, each address noted. The loop is a
-// run's own with a line more, and beside it, so that a run that nobody observes pays nothing. The log's
-// place is counted apart from the steps, so that an empty log costs nothing.
+// The steps of a budget up to the first stop, as a run makes them, each address noted. The loop stands
+// beside the run's own, so that a run that nobody observes pays nothing. The log's place is counted
+// apart from the steps, so that an empty log costs nothing.
 pub fn observe(
     opcodes: &[u8],
     arguments: &[u8],

@@ -19,9 +19,9 @@ pub form-found : (a f b i k : ℕ) → k < 64 → instrOf (getD forms k 0, k % 4
 unfolding instrOf formOf
 form-found a f b i k h = same-below (λ k. instrOf (getD forms k 0, k % 4, a, f, b, i)) (λ k. formOf (k / 4) (k % 4) a f b i) 64 refl k h
 
-pub instruction-found : (op arg : ℕ) → op < 256
-    → instrOf (getD forms (op / 4) 0, op / 4 % 4, op % 4, arg / 16, arg % 4, arg) ≡ decodeOf op arg
+pub instruction-found : (op arg : ℕ) {d a b : ℕ} → op < 256 → d ≡ op / 4 % 4 → a ≡ op % 4 → b ≡ arg % 4
+    → instrOf (getD forms (op / 4) 0, d, a, arg / 16, b, arg) ≡ decodeOf op arg
 unfolding decodeOf
-instruction-found op arg h =
+instruction-found op arg h d a b =
     let e : op / 4 / 4 ≡ op / 16 = omega arith in
-    rw (← e) (form-found (op % 4) (arg / 16) (arg % 4) arg (op / 4) (omega arith))
+    rw (d, a, b, ← e) (form-found (op % 4) (arg / 16) (arg % 4) arg (op / 4) (omega arith))

@@ -1,13 +1,13 @@
 -- The parts of a line written one behind another are the line; and a form that two bytes decode to is printed, not refused.
 -- Assumes nothing.
 use Prim.Native.Nat.{ℕ, _≤_, _<_}
-use mathlib.Core.Path.{_≡_, ap, _∙_}
+use mathlib.Core.Path.{_≡_, sym, ap, _∙_}
 use mathlib.Core.List.{List, [], _∷_, _++_}
 use lib.ListN.{length, getD}
 use Rattle.pages.specs.Columns.{rightAligned, hexOf}
 use Rattle.pages.specs.Page.{Page, putOf, writeOf}
 use Rattle.pages.specs.Text.{decimal}
-use Rattle.pages.proofs.Pages.{text-behind, byte-behind}
+use Rattle.pages.proofs.Pages.{write-one, text-behind, byte-behind}
 use Rattle.isa.specs.Decode.{decodeOf}
 use Rattle.isa.specs.Encode.{numberOf}
 use Rattle.isa.specs.declared.Instr.{Instr}
@@ -21,8 +21,7 @@ use Rattle.busy_runs.specs.internal.Writing.{program, Narrow}
 
 -- a byte before a text
 byte-before : (y : ℕ) (xs : List ℕ) (p : Page) {q r : Page} → q ≡ putOf y p → r ≡ writeOf xs q → r ≡ writeOf (y ∷ xs) p
-unfolding writeOf
-byte-before y xs p e h = h ∙ ap (writeOf xs) e
+byte-before y xs p e h = h ∙ ap (writeOf xs) e ∙ sym (write-one y xs p)
 
 module _ (ops args counters : List ℕ) (a : ℕ) where
   pub line-written : {op arg n : ℕ} {t : List ℕ} (x : Page) {address gap count space text line : Page}

@@ -1,4 +1,5 @@
 // The page of busy addresses, written on a lent buffer.
+use decoding::low_pair;
 use isa::Instr;
 use numbers::Fields;
 use pages::columns::write_hex;
@@ -42,18 +43,19 @@ const FORMS: [u8; 64] = *b"\
     \x24\x25\x26\x27\
     ";
 
-// The instruction of two bytes, by the table of forms. `decoding` is left to the step: with a second
-// caller in the archive it would not be held in the run's loop, and a step take three times as long.
+// The instruction of two bytes, by the table of forms. `decoding::decode` is left to the step: with a
+// second caller in the archive it would not be inlined into the run's loop, and a step take twice as
+// long.
 fn instruction(opcode: u8, argument: u8) -> Instr
     ensures { λ r. ⌜ r ≡ decodeOf opcode argument ⌝ }
 {
     let forms = FORMS;
     numbers::instruction(Fields(
-        forms[(opcode / 4) as usize],
-        opcode / 4 % 4,
-        opcode % 4,
-        argument / 16,
-        argument % 4,
+        forms[(opcode >> 2) as usize],
+        low_pair(opcode >> 2),
+        low_pair(opcode),
+        argument >> 4,
+        low_pair(argument),
         argument,
     ))
 }

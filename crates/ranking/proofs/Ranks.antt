@@ -6,7 +6,6 @@ use mathlib.Core.Bool.{Bool, true, false, cond, _&&_, _||_, false≢true}
 use mathlib.Core.List.{List, [], _∷_}
 use mathlib.Core.Logic.{_⊎_, inl, inr, ⊎-elim}
 use native.Mathlib.Nat.{not-suc-le-zero, le-refl}
-use native.Mathlib.Numerals.{add-one}
 use native.Mathlib.Omega.{arith}
 use lib.Dec.{eqb}
 use lib.ListN.{length}
@@ -37,52 +36,42 @@ and-fails a b h k = rw h at k
 
 -- ---- how many addresses below n pass a test
 
-abbrev tally : (ℕ → Bool) → ℕ → ℕ
-tally f zero = 0
-tally f (suc n) = cond (f n) (tally f n + 1) (tally f n)
+abbrev passing : (ℕ → Bool) → ℕ → ℕ
+passing f zero = 0
+passing f (suc n) = cond (f n) (passing f n + 1) (passing f n)
 
-tally-most : (f : ℕ → Bool) (n : ℕ) → tally f n ≤ n
-tally-most f zero = le-refl 0
-tally-most f (suc n) =
-    let h : tally f n ≤ n = tally-most f n in
+passing-most : (f : ℕ → Bool) (n : ℕ) → passing f n ≤ n
+passing-most f zero = le-refl 0
+passing-most f (suc n) =
+    let h : passing f n ≤ n = passing-most f n in
     by-test (f n) (λ e. rw e (omega arith)) (λ e. rw e (omega arith))
 
 module _ (f g : ℕ → Bool) (more : (a : ℕ) → f a ≡ true → g a ≡ true) where
-  tally-grows : (n : ℕ) → tally f n ≤ tally g n
-  tally-grows zero = le-refl 0
-  tally-grows (suc n) =
-      let h : tally f n ≤ tally g n = tally-grows n in
+  passing-grows : (n : ℕ) → passing f n ≤ passing g n
+  passing-grows zero = le-refl 0
+  passing-grows (suc n) =
+      let h : passing f n ≤ passing g n = passing-grows n in
       by-test (f n)
       (λ e. rw (e, more n e) (omega arith))
       (λ e. rw e (by-test (g n) (λ k. rw k (omega arith)) (λ k. rw k (omega arith))))
 
   -- with one that passes g alone
-  tally-less : (x n : ℕ) → x < n → f x ≡ false → g x ≡ true → tally f n < tally g n
-  tally-less x zero h p q = absurd (not-suc-le-zero h)
-  tally-less x (suc n) h p q =
+  passing-less : (x n : ℕ) → x < n → f x ≡ false → g x ≡ true → passing f n < passing g n
+  passing-less x zero h p q = absurd (not-suc-le-zero h)
+  passing-less x (suc n) h p q =
       by-test (eqb x n)
       (λ e.
       let s : x ≡ n = eqb-true x n e in
-      let l : tally f n ≤ tally g n = tally-grows n in
+      let l : passing f n ≤ passing g n = passing-grows n in
       rw (rw s at p, rw s at q) (omega arith))
       (λ e.
       let s : x ≡ n → ⊥ = eqb-false x n e in
-      let l : tally f n < tally g n = tally-less x n (omega arith) p q in
+      let l : passing f n < passing g n = passing-less x n (omega arith) p q in
       by-test (f n)
       (λ k. rw (k, more n k) (omega arith))
       (λ k. rw k (by-test (g n) (λ j. rw j (omega arith)) (λ j. rw j (omega arith)))))
 
 -- ---- the scan: the best below n, and the next address
-
-pub first-starts : (before : ℕ → ℕ → Bool) (wanted : ℕ → Bool) (last : ℕ) → 256 ≡ firstBelow before wanted last 0
-unfolding firstBelow
-first-starts before wanted last = refl
-
-pub first-goes : (before : ℕ → ℕ → Bool) (wanted : ℕ → Bool) (last a best r : ℕ) → best ≡ firstBelow before wanted last a
-    → r ≡ cond (leads before wanted last best a) a best → r ≡ firstBelow before wanted last (a + 1)
-unfolding firstBelow
-first-goes before wanted last a best r e h =
-    h ∙ ap (λ (x : ℕ). cond (leads before wanted last x a) a x) e ∙ ap (firstBelow before wanted last) (sym (add-one a))
 
 pub first-most : (before : ℕ → ℕ → Bool) (wanted : ℕ → Bool) (last n : ℕ) → n ≤ 256 → firstBelow before wanted last n ≤ 256
 unfolding firstBelow
@@ -263,9 +252,9 @@ module _ {before : ℕ → ℕ → Bool} (o : StrictOrder before) where
         ))
 
     -- as long as there are no more that follow than may be listed, all are
-    list-all : (n last : ℕ) → tally (fits last) 256 ≤ n → (a : ℕ) → a < 256 → fits last a ≡ true → In a (listAfter before wanted n last)
+    list-all : (n last : ℕ) → passing (fits last) 256 ≤ n → (a : ℕ) → a < 256 → fits last a ≡ true → In a (listAfter before wanted n last)
     list-all zero last few a h f =
-        let l : tally (λ x. false) 256 < tally (fits last) 256 = tally-less (λ x. false) (fits last) (λ x e. absurd (false≢true e)) a 256 h refl f in
+        let l : passing (λ x. false) 256 < passing (fits last) 256 = passing-less (λ x. false) (fits last) (λ x e. absurd (false≢true e)) a 256 h refl f in
         absurd (omega arith)
     list-all (suc n) last few a h f =
         let w : (next last ≡ 256 → ⊥) × ((a ≡ next last) ⊎ (before (next last) a ≡ true)) = next-is last .least a h f in
@@ -275,8 +264,8 @@ module _ {before : ℕ → ℕ → Bool} (o : StrictOrder before) where
         by-test (fits (next last) (next last))
         (λ e. absurd (not-itself (next last) (follows-on last (next last) (next last) q (x .1) e .0)))
         (λ e. e) in
-        let less : tally (fits (next last)) 256 < tally (fits last) 256 =
-        tally-less (fits (next last)) (fits last) (λ b e. follows-on last (next last) b q (x .1) e .1) (next last) 256 (x .0) out (x .1) in
+        let less : passing (fits (next last)) 256 < passing (fits last) 256 =
+        passing-less (fits (next last)) (fits last) (λ b e. follows-on last (next last) b q (x .1) e .1) (next last) 256 (x .0) out (x .1) in
         rw (list-goes n last q)
         (⊎-elim
         (λ s. inl s)
@@ -302,7 +291,7 @@ module _ {before : ℕ → ℕ → Bool} (o : StrictOrder before) where
           only = λ a i.
               let w : (a < 256) × (fits 256 a ≡ true) = list-only 256 256 a i in
               (w .0, both (wanted a) true (w .1) .0);
-          all = λ a h f. list-all 256 256 (tally-most (fits 256) 256) a h (and-both (wanted a) true f refl);
+          all = λ a h f. list-all 256 256 (passing-most (fits 256) 256) a h (and-both (wanted a) true f refl);
         }
 
     pub one-ranking : (l k : List ℕ) → Ranking before wanted l → Ranking before wanted k → l ≡ k

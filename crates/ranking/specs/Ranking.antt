@@ -1,4 +1,4 @@
--- Some of the addresses in an order: what a strict total order is, and what their list is.
+-- What 02 [3] says of the page's lines: some of the addresses, each once, in an order. What a strict total order is, and what their list is.
 -- Assumes nothing.
 use Prim.Native.Nat.{ℕ, _<_}
 use mathlib.Core.Path.{_≡_}

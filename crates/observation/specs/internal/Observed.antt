@@ -8,7 +8,8 @@ use Rattle.slices.specs.Sizes.{bankSize}
 use Rattle.pages.specs.Page.{Page, page, putOf, writeOf}
 use Rattle.model.specs.Run.{Outcome, reported, runOf}
 use Rattle.model.specs.Step.{Setting, Machine}
-use Rattle.executions.specs.Executed.{executedOf, countersOf, Addresses}
+use Rattle.executions.specs.Executed.{executedOf, countersOf}
+use Rattle.executions.specs.internal.Addresses.{Addresses}
 
 -- an address counted once more, and put into the log where there is room
 pub record Noted (a : ℕ) (counters : List ℕ) (log : Page) (counters′ : List ℕ) (log′ : Page) : Type 0 where

@@ -13,4 +13,10 @@ instruction-spec =
     (λ c. search needs)
     (λ c. search needs)
     (λ c κs. search needs)
-    (λ c. c .instruction .ensures ∙ instruction-found _ _ (c .before .fits .opcode .fits)))
+    (λ c κs. search needs)
+    (λ c κs. search needs)
+    (λ c κs. search needs)
+    (λ c.
+    let b = c .before in
+    let s = b .before .before .before in
+    c .instruction .ensures ∙ instruction-found (s .args .opcode) (s .args .argument) (s .fits .opcode .fits) (b .before .before .low-pair .ensures) (b .before .low-pair2 .ensures) (b .low-pair3 .ensures)))

@@ -5,8 +5,8 @@ use mathlib.Core.Bool.{Bool, cond, _&&_, _||_}
 use mathlib.Core.List.{List, [], _∷_}
 use lib.Dec.{eqb, ltb}
 use Rattle.slices.specs.Sizes.{bankSize}
-use Rattle.ranking.specs.Busier.{isExecuted, busier}
-use Rattle.ranking.specs.declared.Counted.{Counted}
+use Rattle.ranking.specs.Busier.{isExecuted, precedes, busier}
+use Rattle.ranking.specs.declared.AddressCount.{AddressCount}
 
 -- what is no address stands for none
 abbrev pub none : ℕ
@@ -41,15 +41,9 @@ rankedBy counters = listAfter (busier counters) (isExecuted counters) bankSize n
 
 -- ---- as the code goes on, from address to address
 
-abbrev pub counted : ℕ → ℕ → Counted
-counted a n = record { address = a; count = n }
+-- `next` executed, is behind `last`, and precedes the best so far; none, with the count 0, is preceded by every executed address
+abbrev pub takesLead : AddressCount → AddressCount → AddressCount → Bool
+takesLead last best next = (ltb 0 (next .count) && (eqb (last .address) none || precedes last next)) && precedes next best
 
-abbrev pub isBehind : Counted → Counted → Bool
-isBehind last next = ltb (next .count) (last .count) || (eqb (last .count) (next .count) && ltb (last .address) (next .address))
-
--- `next` follows `last` and has more than the best of the lower addresses, which leads where they have as many
-abbrev pub takesLead : Counted → Counted → Counted → Bool
-takesLead last best next = ltb (best .count) (next .count) && (eqb (last .address) none || isBehind last next)
-
-abbrev pub leaderOf : Counted → Counted → Counted → Counted
+abbrev pub leaderOf : AddressCount → AddressCount → AddressCount → AddressCount
 leaderOf last best next = cond (takesLead last best next) next best
