@@ -60,14 +60,14 @@ impl Board {
     pub fn run(&mut self, keys: &[u8], budget: u32) -> Result<Report, Refusal> {
         let start = self.state;
         let report = run(self.lend(keys), budget, start)?;
-        self.go_on(&report);
+        self.take_over(&report);
         Ok(report)
     }
 
-    /// What the same run comes to that [`run`](Board::run) would make, with how often each address
-    /// executed in it and the page of them; or why there is none.
+    /// What a run of at most `budget` steps from the state reached reports, how often each address
+    /// executed in it, and the page of them; or why there is none.
     ///
-    /// The board is left as by [`run`](Board::run), and the same is refused.
+    /// It reports and refuses what [`run`](Board::run) does, and leaves the board as that would.
     ///
     /// ```
     /// # fn main() -> Result<(), Box<dyn std::error::Error>> {
@@ -86,7 +86,7 @@ impl Board {
         let (mut counters, mut page) = ([0; BANK], vec![0; PAGE]);
         let records = Records { counters: &mut counters, page: &mut page };
         let BusyReport { report, lines } = run_busy(self.lend(keys), records, budget, start)?;
-        self.go_on(&report);
+        self.take_over(&report);
         page.truncate(lines * LINE);
         let page = String::from_utf8(page).expect("the library writes ASCII");
         Ok(Busy { report, counters, page })
@@ -105,7 +105,7 @@ impl Board {
     }
 
     /// Takes over what a run reports: the state reached, and the words behind those before.
-    fn go_on(&mut self, report: &Report) {
+    fn take_over(&mut self, report: &Report) {
         self.state = report.state;
         self.words += report.words;
     }

@@ -2,7 +2,7 @@
 
 use crate::raw;
 use crate::text::bytes;
-use cesca_types::{BusyReport, Lent, Records, Refusal, Report, State, BANK, PAGE};
+use cesca_types::{BusyReport, Lent, Records, Refusal, Report, State, BANK};
 use std::mem::MaybeUninit;
 
 /// What a busy run on a [`Board`](crate::Board) comes to: its report, and where its steps went.
@@ -26,8 +26,8 @@ pub struct Busy {
 /// Report, banks and roll are as after [`run`](crate::run()). All 256 counters are set, to 0 where
 /// nothing executed. The page begins with its lines, [`LINE`](crate::LINE) bytes each, and what
 /// lies past them is kept. A refusal leaves everything lent as it was: first (17) a bank that isn't
-/// of 256 bytes, counters that aren't 256, or a page buffer under 8,960 bytes ([`PAGE`]); then a
-/// key position past the end of the keys (18), then a budget over
+/// of 256 bytes, counters that aren't 256, or a page buffer under 8,960 bytes
+/// ([`PAGE`](crate::PAGE)); then a key position past the end of the keys (18), then a budget over
 /// [`MOST_STEPS`](crate::MOST_STEPS) (19).
 ///
 /// ```
@@ -73,7 +73,7 @@ pub fn run_busy(
 #[cold]
 fn sized(refusal: Refusal, lengths: [usize; 2]) -> Refusal {
     let words = match (refusal.number(), lengths) {
-        (17, [BANK, page]) => format!("the page's buffer has {}, under {PAGE}", bytes(page)),
+        (17, [BANK, page]) => format!("the page's buffer has {}, under 8,960", bytes(page)),
         (17, [counters, _]) => format!("the number of counters is {counters}, not {BANK}"),
         _ => return refusal,
     };
@@ -112,10 +112,10 @@ mod tests {
         let counters = "17: the number of counters is 255, not 256";
         assert_eq!(refused(256, [255, 8_960], 0, 1), counters);
         assert_eq!(refused(256, [255, 8_959], 1, u32::MAX), counters);
-        let page = "17: the page's buffer has 8959 bytes, under 8960";
+        let page = "17: the page's buffer has 8959 bytes, under 8,960";
         assert_eq!(refused(256, [256, 8_959], 0, 1), page);
         assert_eq!(refused(256, [256, 8_959], 1, u32::MAX), page);
-        let none = "17: the page's buffer has 0 bytes, under 8960";
+        let none = "17: the page's buffer has 0 bytes, under 8,960";
         assert_eq!(refused(256, [256, 0], 0, 1), none);
         let bank = "17: a bank is not 256 bytes";
         assert_eq!(refused(255, [256, 8_960], 0, 1), bank);

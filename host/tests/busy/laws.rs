@@ -15,6 +15,23 @@ fn parsed(line: &str) -> (u8, u32) {
     (u8::from_str_radix(at, 16).expect("an address"), count)
 }
 
+/// Checks that the counters add up to the steps, and that the page has a line for each that isn't 0,
+/// in order, and is kept behind them.
+fn check_records(before: &Buffers, after: &Buffers, BusyReport { report, lines }: BusyReport) {
+    let Buffers { counters, page, .. } = after;
+    assert_eq!(counters.inner().iter().sum::<u32>(), report.steps);
+    let (written, kept) = page.inner().split_at(lines * LINE);
+    assert!(*kept == before.page.inner()[lines * LINE..], "bytes behind the lines");
+    let text = str::from_utf8(written).expect("ASCII");
+    let told: Vec<(u8, u32)> = text.lines().map(parsed).collect();
+    let executed = counters.inner().iter().filter(|count| **count > 0).count();
+    assert_eq!((told.len(), executed), (lines, lines));
+    assert!(told.iter().all(|(at, count)| counters.inner()[usize::from(*at)] == *count));
+    let sorted =
+        told.is_sorted_by(|(at, count), (next, less)| count > less || (count == less && at < next));
+    assert!(sorted, "{text}");
+}
+
 #[test]
 fn a_busy_run_is_the_run() {
     each_case(20_000, |random| {
@@ -34,23 +51,17 @@ fn a_busy_run_is_the_run() {
 
 #[test]
 fn the_page_tells_the_counters_which_add_up_to_the_steps() {
+    // The pages checked, and those of them with lines to be in order.
+    let (mut pages, mut ordered) = (0, 0);
     each_case(5_000, |random| {
         let kind = random.pick(&[Kind::Any, Kind::Round, Kind::Round]);
         let (before, Case { budget, start, .. }) = kind.call(random);
-        let (Ok(BusyReport { report, lines }), after) = before.lent(run_busy, budget, start) else {
-            return;
-        };
-        let Buffers { counters, page, .. } = &after;
-        assert_eq!(counters.inner().iter().sum::<u32>(), report.steps);
-        let (written, kept) = page.inner().split_at(lines * LINE);
-        assert!(*kept == before.page.inner()[lines * LINE..], "bytes behind the lines");
-        let text = str::from_utf8(written).expect("ASCII");
-        let told: Vec<(u8, u32)> = text.lines().map(parsed).collect();
-        let executed = counters.inner().iter().filter(|count| **count > 0).count();
-        assert_eq!((told.len(), executed), (lines, lines));
-        assert!(told.iter().all(|(at, count)| counters.inner()[usize::from(*at)] == *count));
-        let sorted = told
-            .is_sorted_by(|(at, count), (next, less)| count > less || (count == less && at < next));
-        assert!(sorted, "{text}");
+        let (answer, after) = before.lent(run_busy, budget, start);
+        if let Ok(busy) = answer {
+            check_records(&before, &after, busy);
+            pages += 1;
+            ordered += u64::from(busy.lines > 1);
+        }
     });
+    assert!(pages >= 4_000 && ordered >= 3_000, "{pages} pages, {ordered} with several lines");
 }

@@ -4,7 +4,7 @@ use crate::buffers::Buffers;
 use crate::case::Case;
 use crate::memory::Guarded;
 use crate::random::Random;
-use cesca::{BANK, PAGE};
+use cesca::{BANK, MOST_STEPS, PAGE};
 
 /// Opcodes that go on to the next word and stop no run, of all lengths of text.
 const ONWARD: [u8; 10] = [0x00, 0x10, 0x20, 0x24, 0x2C, 0x30, 0x54, 0x5C, 0x90, 0xFC];
@@ -18,6 +18,8 @@ pub enum Kind {
     Round,
     /// A program that goes through all 256 addresses, again and again.
     Whole,
+    /// One of these programs, not spoiled, with any budget that isn't refused.
+    Long,
 }
 
 impl Kind {
@@ -25,12 +27,13 @@ impl Kind {
     pub fn call(self, random: &mut Random) -> (Buffers, Case) {
         let mut case = match self {
             Kind::Any => Case::random(random),
-            Kind::Round | Kind::Whole => Case::good(random),
+            Kind::Round | Kind::Whole | Kind::Long => Case::good(random),
         };
         match self {
             Kind::Any => case.budget = few(case.budget, random),
             Kind::Round => round(&mut case, random),
             Kind::Whole => whole(&mut case, random),
+            Kind::Long => long(&mut case, random),
         }
         let spoiled = self == Kind::Any && random.once_in(8);
         let page = random.pick(&[PAGE, PAGE, PAGE + 1, PAGE + 35, 9_000]);
@@ -80,4 +83,14 @@ fn whole(case: &mut Case, random: &mut Random) {
     }
     case.start.halted = false;
     case.budget = random.pick(&[255, 256, 257, 300, 511, 512, 1_000]);
+}
+
+/// Gives a case, as it is or made to go on, a budget from 0 to the most.
+fn long(case: &mut Case, random: &mut Random) {
+    match random.below(4) {
+        0 => round(case, random),
+        1 => whole(case, random),
+        _ => (),
+    }
+    case.budget = random.below(MOST_STEPS + 1);
 }

@@ -23,7 +23,7 @@ fn tallied(kind: Kind, cases: u64) -> Tally {
 #[test]
 fn any_calls_are_run_alike() {
     let tally = tallied(Kind::Any, 40_000);
-    let Tally { stops, refusals, budgets, halted, filled, pages, ties, lengths } = &tally;
+    let Tally { stops, refusals, budgets, halted, filled, pages, ties, lengths, .. } = &tally;
     assert!(stops.iter().all(|count| *count >= 1_000), "{tally:?}");
     assert!(refusals.iter().all(|count| *count >= 500), "{tally:?}");
     assert!(budgets.iter().all(|count| *count >= 1_000), "{tally:?}");
@@ -44,6 +44,13 @@ fn whole_banks_are_run_alike() {
     let tally = tallied(Kind::Whole, 1_000);
     assert!(tally.stops[1] == 1_000 && tally.pages[2] >= 700, "{tally:?}");
     assert!(tally.ties >= 400, "{tally:?}");
+}
+
+#[test]
+fn runs_of_all_budgets_are_run_alike() {
+    let tally = tallied(Kind::Long, 300);
+    assert!(tally.refusals == [0; 3], "{tally:?}");
+    assert!(tally.long.iter().all(|count| *count >= 30), "{tally:?}");
 }
 
 #[test]

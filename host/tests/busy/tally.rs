@@ -2,7 +2,7 @@
 
 use crate::buffers::Buffers;
 use crate::runners::Answer;
-use cesca::{BANK, LINE};
+use cesca::{BANK, LINE, MOST_STEPS};
 
 /// How often each thing was met.
 #[derive(Debug, Default)]
@@ -24,6 +24,8 @@ pub struct Tally {
     pub ties: u64,
     /// Pages as short as they may be, and longer ones.
     pub lengths: [u64; 2],
+    /// Runs of over 10,000 steps, by the quarter of 0 to 1,000,000 in which their budget is.
+    pub long: [u64; 4],
 }
 
 impl Tally {
@@ -49,6 +51,8 @@ impl Tally {
         self.ties += u64::from(has_tie(after, busy.lines));
         let shortest = after.page.inner().len() == LINE * BANK;
         self.lengths[usize::from(!shortest)] += 1;
+        let quarter = u64::from(budget) * 4 / u64::from(MOST_STEPS + 1);
+        self.long[quarter as usize] += u64::from(busy.report.steps > 10_000);
     }
 }
 

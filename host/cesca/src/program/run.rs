@@ -10,13 +10,13 @@ use std::io::Write;
 
 /// Writes what a run of the admitted listing in a file reports.
 pub fn run(console: &mut Console, options: &Options) -> Result<(), Failure> {
-    let (board, report) = made(options, Board::run)?;
+    let (board, report) = after_run(options, Board::run)?;
     show(console, options, &report, board.roll())
 }
 
-/// The board on which a run of the admitted listing in a file was made, and what it comes to. The
-/// run is given keys and steps.
-pub fn made<T>(
+/// The board after a run of the admitted listing in a file, and what the run comes to; `run` makes
+/// it, given keys and steps.
+pub fn after_run<T>(
     options: &Options,
     run: impl Fn(&mut Board, &[u8], u32) -> Result<T, Refusal>,
 ) -> Result<(Board, T), Failure> {
@@ -26,8 +26,9 @@ pub fn made<T>(
     let words = steps.min(MOST_STEPS) as usize;
     let mut board = input::admitted(name)?.board().with_roll(words);
     let keys = options.keys.as_deref().unwrap_or_default();
-    let made = run(&mut board, keys, steps);
-    made.map(|made| (board, made)).map_err(|refusal| Failure::of_refusal(name, &refusal))
+    let outcome = run(&mut board, keys, steps);
+    let outcome = outcome.map_err(|refusal| Failure::of_refusal(name, &refusal))?;
+    Ok((board, outcome))
 }
 
 /// Writes a report and the words of the roll, with the time if a clock is given.

@@ -2,7 +2,7 @@
 
 use crate::banks::{downwards, mixed, upwards};
 use crate::kinds::Program;
-use crate::machines::{busy, counted, library, Bench, Machine};
+use crate::machines::{busy, counted, library, plain, Bench, Machine};
 use crate::programs::endless;
 use crate::timing::{medians, REPETITIONS};
 use cesca::{BANK, MOST_STEPS};
@@ -15,32 +15,38 @@ const RUNS: u32 = 100;
 /// The steps after which a program with counts along a way has entered it at every address.
 const ENTERED: u32 = 32_895;
 
-/// Prints the table of steps: the library's busy run, the plain machine with counters, and the
-/// library's own run.
+/// Prints the table of steps: the library's busy run, the plain machine with counters and without,
+/// and the library's own run.
 pub fn steps_table(out: &mut impl Write) -> io::Result<()> {
     writeln!(out, "busy runs of {MOST_STEPS} steps, median of {REPETITIONS}; nanoseconds a step")?;
-    write!(out, "{:18} {:>10} {:>10} {:>10}", "program", "busy", "counted", "run")?;
-    writeln!(out, " {:>10} {:>10}", "busy/count", "busy/run")?;
+    write!(out, "{:18} {:>10} {:>10} {:>10} {:>10}", "program", "busy", "counted", "plain", "run")?;
+    writeln!(out, " {:>10} {:>10} {:>10}", "busy/count", "busy/plain", "busy/run")?;
     for (name, program) in endless() {
         steps_row(out, &name, &program)?;
     }
     Ok(())
 }
 
-/// Prints the row of a program.
+/// Prints the row of a program, whose machines take turns.
 fn steps_row(out: &mut impl Write, name: &str, program: &Listing) -> io::Result<()> {
-    let (mut busy, mut counted, mut run) = (busy(program), counted(program), library(program));
-    let [busy, counted, run, over_counted, over_run] = medians(|| {
-        let turns =
-            [busy.timed(MOST_STEPS, 1), counted.timed(MOST_STEPS, 1), run.timed(MOST_STEPS, 1)];
+    let (mut busy, mut run) = (busy(program), library(program));
+    let (mut counted, mut plain) = (counted(program), plain(program));
+    let [busy, counted, plain, run, ratios @ ..] = medians(|| {
+        let turns = [
+            busy.timed(MOST_STEPS, 1),
+            counted.timed(MOST_STEPS, 1),
+            plain.timed(MOST_STEPS, 1),
+            run.timed(MOST_STEPS, 1),
+        ];
         assert!(turns.iter().all(|(report, _)| *report == turns[0].0), "all report the same");
-        let [busy, counted, run] = turns.map(|(_, seconds)| seconds);
-        [busy, counted, run, busy / counted, busy / run]
+        let [busy, counted, plain, run] = turns.map(|(_, seconds)| seconds);
+        [busy, counted, plain, run, busy / counted, busy / plain, busy / run]
     });
-    let each = [busy, counted, run].map(|seconds| seconds / f64::from(MOST_STEPS) * 1e9);
-    let [busy, counted, run] = each;
-    write!(out, "{name:18} {busy:10.2} {counted:10.2} {run:10.2}")?;
-    writeln!(out, " {over_counted:10.3} {over_run:10.3}")
+    let each = [busy, counted, plain, run].map(|seconds| seconds / f64::from(MOST_STEPS) * 1e9);
+    let [busy, counted, plain, run] = each;
+    write!(out, "{name:18} {busy:10.2} {counted:10.2} {plain:10.2} {run:10.2}")?;
+    let [over_counted, over_plain, over_run] = ratios;
+    writeln!(out, " {over_counted:10.3} {over_plain:10.3} {over_run:10.3}")
 }
 
 /// Prints the table of pages: what a busy run takes beyond the library's run of the same steps.

@@ -36,7 +36,7 @@ pub struct Turns {
 /// The times of so many runs of a program by each machine in turn.
 pub fn in_turn(program: &Listing, budget: u32, runs: u32) -> Turns {
     let mut library = library(program);
-    let mut plain = Bench::new(plain::run, program);
+    let mut plain = plain(program);
     let mut predecoded = Bench::new(predecoded::run, program);
     let [library, plain, predecoded, over_plain, over_predecoded] = medians(|| {
         let turns = [
@@ -66,6 +66,11 @@ pub fn busy(program: &Listing) -> Bench<'_, impl Machine> {
         run_busy(lent, records, budget, start).map(|busy| busy.report)
     };
     Bench::new(machine, program)
+}
+
+/// The plain machine with a program.
+pub fn plain(program: &Listing) -> Bench<'_, impl Machine> {
+    Bench::new(plain::run, program)
 }
 
 /// The plain machine with a program, counting its addresses.

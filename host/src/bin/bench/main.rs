@@ -1,5 +1,6 @@
-//! Speed of the library: runs beside two machines in Rust, busy runs beside one that counts,
-//! admissions, assemblies and drawings beside the reference, and how all of them grow.
+//! Speed of the library: runs beside two machines in Rust, busy runs beside one of them with
+//! counters and without, admissions, assemblies and drawings beside the reference, and how all of
+//! them grow.
 
 mod admissions;
 mod assemblies;
