@@ -10,9 +10,10 @@ use native.Mathlib.Omega.{arith}
 use lib.Dec.{eqb}
 use lib.ListN.{length}
 use borrow.Author.Tests.{eqb-true, eqb-false, eq-eqb, ne-eqb}
+use Rattle.slices.specs.Sizes.{bankSize}
 use Rattle.slices.proofs.Bools.{by-test, both, neither}
 use Rattle.ranking.specs.Ranking.{StrictOrder, In, Ahead, Sorted, Distinct, Ranking}
-use Rattle.ranking.specs.internal.Selection.{follows, leads, firstBelow, listAfter}
+use Rattle.ranking.specs.internal.Selection.{none, follows, leads, firstBelow, listAfter}
 
 -- ---- bools
 
@@ -73,11 +74,11 @@ module _ (f g : ℕ → Bool) (more : (a : ℕ) → f a ≡ true → g a ≡ tru
 
 -- ---- the scan: the best below n, and the next address
 
-pub first-most : (before : ℕ → ℕ → Bool) (wanted : ℕ → Bool) (last n : ℕ) → n ≤ 256 → firstBelow before wanted last n ≤ 256
+pub first-most : (before : ℕ → ℕ → Bool) (wanted : ℕ → Bool) (last n : ℕ) → n ≤ bankSize → firstBelow before wanted last n ≤ bankSize
 unfolding firstBelow
-first-most before wanted last zero h = le-refl 256
+first-most before wanted last zero h = le-refl bankSize
 first-most before wanted last (suc n) h =
-    let l : firstBelow before wanted last n ≤ 256 = first-most before wanted last n (omega arith) in
+    let l : firstBelow before wanted last n ≤ bankSize = first-most before wanted last n (omega arith) in
     by-test (leads before wanted last (firstBelow before wanted last n) n) (λ e. rw e (omega arith)) (λ e. rw e l)
 
 -- ---- sorted lists
@@ -137,12 +138,12 @@ module _ {before : ℕ → ℕ → Bool} (o : StrictOrder before) where
     fits last a = follows before wanted last a
 
     record First (last n best : ℕ) : Type 0 where
-      pub found : (best ≡ 256 → ⊥) → (best < n) × (fits last best ≡ true)
-      pub least : (b : ℕ) → b < n → fits last b ≡ true → (best ≡ 256 → ⊥) × ((b ≡ best) ⊎ (before best b ≡ true))
+      pub found : (best ≡ none → ⊥) → (best < n) × (fits last best ≡ true)
+      pub least : (b : ℕ) → b < n → fits last b ≡ true → (best ≡ none → ⊥) × ((b ≡ best) ⊎ (before best b ≡ true))
 
-    first-here : (last n best : ℕ) → n < 256 → First last n best → leads before wanted last best n ≡ true → First last (suc n) n
+    first-here : (last n best : ℕ) → n < bankSize → First last n best → leads before wanted last best n ≡ true → First last (suc n) n
     first-here last n best h i t =
-        let w : (fits last n ≡ true) × ((eqb best 256 || before n best) ≡ true) = both (fits last n) (eqb best 256 || before n best) t in
+        let w : (fits last n ≡ true) × ((eqb best none || before n best) ≡ true) = both (fits last n) (eqb best none || before n best) t in
         record {
           found = λ q. (le-refl (suc n), w .0);
           least = λ b l f. (
@@ -151,11 +152,11 @@ module _ {before : ℕ → ℕ → Bool} (o : StrictOrder before) where
                 (λ e. inl (eqb-true b n e))
                 (λ e.
                 let s : b ≡ n → ⊥ = eqb-false b n e in
-                let j : (best ≡ 256 → ⊥) × ((b ≡ best) ⊎ (before best b ≡ true)) = i .least b (omega arith) f in
+                let j : (best ≡ none → ⊥) × ((b ≡ best) ⊎ (before best b ≡ true)) = i .least b (omega arith) f in
                 ⊎-elim
-                (λ k. absurd (j .0 (eqb-true best 256 k)))
+                (λ k. absurd (j .0 (eqb-true best bankSize k)))
                 (λ k. inr (⊎-elim (λ q. rw q k) (λ q. o .transitive n best b k q) (j .1)))
-                (one-of (eqb best 256) (before n best) (w .1))),
+                (one-of (eqb best none) (before n best) (w .1))),
           );
         }
 
@@ -168,9 +169,9 @@ module _ {before : ℕ → ℕ → Bool} (o : StrictOrder before) where
               (λ e.
               let s : b ≡ n = eqb-true b n e in
               let f′ : fits last n ≡ true = rw s at f in
-              let u : (eqb best 256 ≡ false) × (before n best ≡ false) =
-              neither (eqb best 256) (before n best) (and-fails (fits last n) (eqb best 256 || before n best) f′ t) in
-              let q : best ≡ 256 → ⊥ = eqb-false best 256 (u .0) in
+              let u : (eqb best none ≡ false) × (before n best ≡ false) =
+              neither (eqb best none) (before n best) (and-fails (fits last n) (eqb best none || before n best) f′ t) in
+              let q : best ≡ none → ⊥ = eqb-false best bankSize (u .0) in
               let j : best < n = i .found q .0 in
               (q, inr (rw s (otherwise n best (λ r. omega arith) (u .1)))))
               (λ e.
@@ -178,7 +179,7 @@ module _ {before : ℕ → ℕ → Bool} (o : StrictOrder before) where
               i .least b (omega arith) f);
         }
 
-    first-is : (last n : ℕ) → n ≤ 256 → First last n (firstBelow before wanted last n)
+    first-is : (last n : ℕ) → n ≤ bankSize → First last n (firstBelow before wanted last n)
     unfolding firstBelow
     first-is last zero h =
         record { found = λ q. absurd (q refl); least = λ b l f. absurd (not-suc-le-zero l) }
@@ -189,62 +190,62 @@ module _ {before : ℕ → ℕ → Bool} (o : StrictOrder before) where
         (λ e. subst (λ (x : ℕ). First last (suc n) x) (sym (ap (λ (t : Bool). cond t n (firstBelow before wanted last n)) e)) (first-kept last n (firstBelow before wanted last n) i e))
 
     abbrev next : ℕ → ℕ
-    next last = firstBelow before wanted last 256
+    next last = firstBelow before wanted last bankSize
 
-    next-is : (last : ℕ) → First last 256 (next last)
-    next-is last = first-is last 256 (le-refl 256)
+    next-is : (last : ℕ) → First last bankSize (next last)
+    next-is last = first-is last bankSize (le-refl bankSize)
 
-    pub list-ends : (n last : ℕ) → next last ≡ 256 → listAfter before wanted (suc n) last ≡ []
+    pub list-ends : (n last : ℕ) → next last ≡ none → listAfter before wanted (suc n) last ≡ []
     unfolding listAfter
-    list-ends n last e = ap (λ (t : Bool). cond t [] (next last ∷ listAfter before wanted n (next last))) (eq-eqb (next last) 256 e)
+    list-ends n last e = ap (λ (t : Bool). cond t [] (next last ∷ listAfter before wanted n (next last))) (eq-eqb (next last) none e)
 
-    pub list-goes : (n last : ℕ) → (next last ≡ 256 → ⊥) → listAfter before wanted (suc n) last ≡ next last ∷ listAfter before wanted n (next last)
+    pub list-goes : (n last : ℕ) → (next last ≡ none → ⊥) → listAfter before wanted (suc n) last ≡ next last ∷ listAfter before wanted n (next last)
     unfolding listAfter
-    list-goes n last e = ap (λ (t : Bool). cond t [] (next last ∷ listAfter before wanted n (next last))) (ne-eqb (next last) 256 e)
+    list-goes n last e = ap (λ (t : Bool). cond t [] (next last ∷ listAfter before wanted n (next last))) (ne-eqb (next last) none e)
 
     pub list-none : (last : ℕ) → listAfter before wanted 0 last ≡ []
     unfolding listAfter
     list-none last = refl
 
     -- what follows an address that follows `last` follows `last`
-    follows-on : (last x a : ℕ) → (x ≡ 256 → ⊥) → fits last x ≡ true → fits x a ≡ true → (before x a ≡ true) × (fits last a ≡ true)
+    follows-on : (last x a : ℕ) → (x ≡ none → ⊥) → fits last x ≡ true → fits x a ≡ true → (before x a ≡ true) × (fits last a ≡ true)
     follows-on last x a q f g =
-        let u : (wanted x ≡ true) × ((eqb last 256 || before last x) ≡ true) = both (wanted x) (eqb last 256 || before last x) f in
-        let v : (wanted a ≡ true) × ((eqb x 256 || before x a) ≡ true) = both (wanted a) (eqb x 256 || before x a) g in
+        let u : (wanted x ≡ true) × ((eqb last none || before last x) ≡ true) = both (wanted x) (eqb last none || before last x) f in
+        let v : (wanted a ≡ true) × ((eqb x none || before x a) ≡ true) = both (wanted a) (eqb x none || before x a) g in
         let b : before x a ≡ true =
-        ⊎-elim (λ k. absurd (q (eqb-true x 256 k))) (λ k. k) (one-of (eqb x 256) (before x a) (v .1)) in (
+        ⊎-elim (λ k. absurd (q (eqb-true x bankSize k))) (λ k. k) (one-of (eqb x none) (before x a) (v .1)) in (
           b,
-          and-both (wanted a) (eqb last 256 || before last a) (v .0)
+          and-both (wanted a) (eqb last none || before last a) (v .0)
               (⊎-elim
-              (λ k. or-left (eqb last 256) (before last a) k)
-              (λ k. or-right (eqb last 256) (before last a) (o .transitive last x a k b))
-              (one-of (eqb last 256) (before last x) (u .1))),
+              (λ k. or-left (eqb last none) (before last a) k)
+              (λ k. or-right (eqb last none) (before last a) (o .transitive last x a k b))
+              (one-of (eqb last none) (before last x) (u .1))),
         )
 
-    list-only : (n last a : ℕ) → In a (listAfter before wanted n last) → (a < 256) × (fits last a ≡ true)
+    list-only : (n last a : ℕ) → In a (listAfter before wanted n last) → (a < bankSize) × (fits last a ≡ true)
     list-only zero last a i = absurd (rw (list-none last) at i)
     list-only (suc n) last a i =
-        by-test (eqb (next last) 256)
-        (λ e. absurd (rw (list-ends n last (eqb-true (next last) 256 e)) at i))
+        by-test (eqb (next last) none)
+        (λ e. absurd (rw (list-ends n last (eqb-true (next last) bankSize e)) at i))
         (λ e.
-        let q : next last ≡ 256 → ⊥ = eqb-false (next last) 256 e in
+        let q : next last ≡ none → ⊥ = eqb-false (next last) bankSize e in
         let j : In a (next last ∷ listAfter before wanted n (next last)) = rw (list-goes n last q) at i in
-        let w : (next last < 256) × (fits last (next last) ≡ true) = next-is last .found q in
+        let w : (next last < bankSize) × (fits last (next last) ≡ true) = next-is last .found q in
         ⊎-elim
         (λ s. rw s w)
         (λ k.
-        let h : (a < 256) × (fits (next last) a ≡ true) = list-only n (next last) a k in
+        let h : (a < bankSize) × (fits (next last) a ≡ true) = list-only n (next last) a k in
         (h .0, follows-on last (next last) a q (w .1) (h .1) .1))
         j)
 
     list-sorted : (n last : ℕ) → Sorted before (listAfter before wanted n last)
     list-sorted zero last = rw (list-none last) tt
     list-sorted (suc n) last =
-        by-test (eqb (next last) 256)
-        (λ e. rw (list-ends n last (eqb-true (next last) 256 e)) tt)
+        by-test (eqb (next last) none)
+        (λ e. rw (list-ends n last (eqb-true (next last) bankSize e)) tt)
         (λ e.
-        let q : next last ≡ 256 → ⊥ = eqb-false (next last) 256 e in
-        let w : (next last < 256) × (fits last (next last) ≡ true) = next-is last .found q in
+        let q : next last ≡ none → ⊥ = eqb-false (next last) bankSize e in
+        let w : (next last < bankSize) × (fits last (next last) ≡ true) = next-is last .found q in
         rw (list-goes n last q) (
           is-ahead (next last) (listAfter before wanted n (next last))
               (λ a i. follows-on last (next last) a q (w .1) (list-only n (next last) a i .1) .0),
@@ -252,50 +253,50 @@ module _ {before : ℕ → ℕ → Bool} (o : StrictOrder before) where
         ))
 
     -- as long as there are no more that follow than may be listed, all are
-    list-all : (n last : ℕ) → passing (fits last) 256 ≤ n → (a : ℕ) → a < 256 → fits last a ≡ true → In a (listAfter before wanted n last)
+    list-all : (n last : ℕ) → passing (fits last) bankSize ≤ n → (a : ℕ) → a < bankSize → fits last a ≡ true → In a (listAfter before wanted n last)
     list-all zero last few a h f =
-        let l : passing (λ x. false) 256 < passing (fits last) 256 = passing-less (λ x. false) (fits last) (λ x e. absurd (false≢true e)) a 256 h refl f in
+        let l : passing (λ x. false) bankSize < passing (fits last) bankSize = passing-less (λ x. false) (fits last) (λ x e. absurd (false≢true e)) a bankSize h refl f in
         absurd (omega arith)
     list-all (suc n) last few a h f =
-        let w : (next last ≡ 256 → ⊥) × ((a ≡ next last) ⊎ (before (next last) a ≡ true)) = next-is last .least a h f in
-        let q : next last ≡ 256 → ⊥ = w .0 in
-        let x : (next last < 256) × (fits last (next last) ≡ true) = next-is last .found q in
+        let w : (next last ≡ none → ⊥) × ((a ≡ next last) ⊎ (before (next last) a ≡ true)) = next-is last .least a h f in
+        let q : next last ≡ none → ⊥ = w .0 in
+        let x : (next last < bankSize) × (fits last (next last) ≡ true) = next-is last .found q in
         let out : fits (next last) (next last) ≡ false =
         by-test (fits (next last) (next last))
         (λ e. absurd (not-itself (next last) (follows-on last (next last) (next last) q (x .1) e .0)))
         (λ e. e) in
-        let less : passing (fits (next last)) 256 < passing (fits last) 256 =
-        passing-less (fits (next last)) (fits last) (λ b e. follows-on last (next last) b q (x .1) e .1) (next last) 256 (x .0) out (x .1) in
+        let less : passing (fits (next last)) bankSize < passing (fits last) bankSize =
+        passing-less (fits (next last)) (fits last) (λ b e. follows-on last (next last) b q (x .1) e .1) (next last) bankSize (x .0) out (x .1) in
         rw (list-goes n last q)
         (⊎-elim
         (λ s. inl s)
         (λ b.
         inr
         (list-all n (next last) (omega arith) a h
-        (and-both (wanted a) (eqb (next last) 256 || before (next last) a) (both (wanted a) (eqb last 256 || before last a) f .0)
-        (or-right (eqb (next last) 256) (before (next last) a) b))))
+        (and-both (wanted a) (eqb (next last) none || before (next last) a) (both (wanted a) (eqb last none || before last a) f .0)
+        (or-right (eqb (next last) none) (before (next last) a) b))))
         (w .1))
 
     pub list-short : (n last : ℕ) → length (listAfter before wanted n last) ≤ n
     list-short zero last = rw (list-none last) (le-refl 0)
     list-short (suc n) last =
-        by-test (eqb (next last) 256)
-        (λ e. rw (list-ends n last (eqb-true (next last) 256 e)) (omega arith))
-        (λ e. let h : length (listAfter before wanted n (next last)) ≤ n = list-short n (next last) in rw (list-goes n last (eqb-false (next last) 256 e)) (omega arith))
+        by-test (eqb (next last) none)
+        (λ e. rw (list-ends n last (eqb-true (next last) bankSize e)) (omega arith))
+        (λ e. let h : length (listAfter before wanted n (next last)) ≤ n = list-short n (next last) in rw (list-goes n last (eqb-false (next last) bankSize e)) (omega arith))
 
-    pub ranking : Ranking before wanted (listAfter before wanted 256 256)
+    pub ranking : Ranking before wanted (listAfter before wanted bankSize none)
     ranking =
         record {
-          sorted = list-sorted 256 256;
-          once = sorted-once (listAfter before wanted 256 256) (list-sorted 256 256);
+          sorted = list-sorted bankSize none;
+          once = sorted-once (listAfter before wanted bankSize none) (list-sorted bankSize none);
           only = λ a i.
-              let w : (a < 256) × (fits 256 a ≡ true) = list-only 256 256 a i in
+              let w : (a < bankSize) × (fits bankSize a ≡ true) = list-only bankSize none a i in
               (w .0, both (wanted a) true (w .1) .0);
-          all = λ a h f. list-all 256 256 (passing-most (fits 256) 256) a h (and-both (wanted a) true f refl);
+          all = λ a h f. list-all bankSize none (passing-most (fits bankSize) bankSize) a h (and-both (wanted a) true f refl);
         }
 
     pub one-ranking : (l k : List ℕ) → Ranking before wanted l → Ranking before wanted k → l ≡ k
     one-ranking l k r s =
         same-lists l k (r .sorted) (s .sorted)
-        (λ a i. let w : (a < 256) × (wanted a ≡ true) = r .only a i in s .all a (w .0) (w .1))
-        (λ a i. let w : (a < 256) × (wanted a ≡ true) = s .only a i in r .all a (w .0) (w .1))
+        (λ a i. let w : (a < bankSize) × (wanted a ≡ true) = r .only a i in s .all a (w .0) (w .1))
+        (λ a i. let w : (a < bankSize) × (wanted a ≡ true) = s .only a i in r .all a (w .0) (w .1))
