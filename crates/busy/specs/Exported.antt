@@ -1,4 +1,4 @@
--- A busy run as numbers and lent memory.
+-- A busy run (02 [3]) as numbers and lent memory.
 -- Assumes nothing.
 use Prim.Native.Nat.{ℕ}
 use mathlib.Core.Path.{_≡_}
