@@ -19,3 +19,5 @@ mod runners;
 mod runs;
 mod tally;
 mod texts;
+#[path = "../run/writing.rs"]
+mod writing;

@@ -2,7 +2,8 @@
 
 use crate::buffers::Buffers;
 use crate::compare::compared;
-use crate::memory::{Guarded, Memory, BANKS};
+use crate::memory::{Guarded, BANKS};
+use crate::writing::{memory, start};
 use cesca::{State, BANK, MOST_STEPS, PAGE};
 
 /// The numbers of counters that are refused.
@@ -13,21 +14,6 @@ const PAGES: [usize; 6] = [0, 1, 35, 4_480, 8_925, 8_959];
 
 /// The budgets that are refused.
 const BUDGETS: [u32; 3] = [MOST_STEPS + 1, 1 << 31, u32::MAX];
-
-/// A program that would write to ram, stack and roll, with two keys and a roll of one word.
-fn memory() -> Memory {
-    // mov [R0], R0; push R1; mov LCD, 5; hlt
-    let words = [[0x58, 0x00], [0x5D, 0x00], [0xE4, 0x05], [0xF8, 0x00]];
-    let mut memory = Memory::with_words(&words);
-    memory.keys = Guarded::new([1, 2]);
-    memory.roll = Guarded::new([7]);
-    memory
-}
-
-/// A state with this position.
-fn start(position: usize) -> State {
-    State { regs: [1, 2, 3, 4], position, ..State::start() }
-}
 
 /// Checks that both answer this number, and so leave all that they are lent.
 fn check(before: &Buffers, budget: u32, start: State, number: u8) {

@@ -17,6 +17,7 @@ mod tally;
 mod time;
 mod transfers;
 mod worked;
+mod writing;
 
 use baselines::{plain, predecoded};
 use cesca::{Lent, Refusal, Report, State};
