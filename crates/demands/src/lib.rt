@@ -13,6 +13,7 @@ use stepping::StepResult;
 ghost use Rattle.examples.specs.Listings.{Answered};
 ghost use Rattle.examples.specs.Marked.{Marked};
 ghost use Rattle.model.specs.Run.{call, stepsBy};
+ghost use Rattle.model.specs.State.{withRegisters};
 ghost use Rattle.model.specs.Step.{setting, machineAt};
 ghost use Rattle.rules.specs.Sheet.{listing};
 ghost use Rattle.run_numbers.specs.Runs.{stateOf};
@@ -45,7 +46,7 @@ pub fn run(
     runs::cesca_run(opcodes, arguments, keys, ram, stack, roll, budget, start)
 }
 
-// A step, or the stop that prevents it: the second demand.
+// A step, or the stop that prevents it, of a state with its registers beside it: the second demand.
 pub fn step(
     opcodes: &[u8],
     arguments: &[u8],
@@ -55,10 +56,11 @@ pub fn step(
     roll: &mut [u16],
     words: usize,
     s: State,
+    regs: &mut [u8; 4],
 ) -> StepResult
-    ensures { λ r. ⌜ SecondOfStep (setting (now (opcodes .entry)) (now (arguments .entry)) (now (keys .entry))) (machineAt s (now (ram .entry)) (now (stack .entry)) (now (roll .entry)) words 0 0) (r .verdict) (r .cycles) (machineAt (r .state) (now (ram .exit)) (now (stack .exit)) (now (roll .exit)) (r .words) (stepsBy (r .verdict)) (r .cycles)) ⌝ }
+    ensures { λ r. ⌜ SecondOfStep (setting (now (opcodes .entry)) (now (arguments .entry)) (now (keys .entry))) (machineAt (withRegisters s (now (regs .entry))) (now (ram .entry)) (now (stack .entry)) (now (roll .entry)) words 0 0) (r .verdict) (r .cycles) (machineAt (withRegisters (r .state) (now (regs .exit))) (now (ram .exit)) (now (stack .exit)) (now (roll .exit)) (r .words) (stepsBy (r .verdict)) (r .cycles)) ⌝ }
 {
-    stepping::step(opcodes, arguments, keys, ram, stack, roll, words, s)
+    stepping::step(opcodes, arguments, keys, ram, stack, roll, words, s, regs)
 }
 
 // A running time: the first demand of its call.

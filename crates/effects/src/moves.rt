@@ -8,14 +8,18 @@ ghost use mathlib.Core.Bool.{cond};
 ghost use Prim.Native.Nat.{_+_};
 ghost use lib.Dec.{ltb};
 ghost use lib.ListN.{length};
-ghost use Rattle.model.specs.State.{withRegister, withOut, withPosition};
+ghost use Rattle.model.specs.State.{withOut, withPosition};
 ghost use Rattle.effects.specs.internal.Effects.{effect};
 
 // A byte to a register.
 pub fn moved(s: State, d: u8, v: u8, n: u8) -> Effect
-    ensures { λ r. ⌜ r ≡ effect (withRegister s d v) Action.Nothing n ⌝ }
+    ensures { λ r. ⌜ r ≡ effect s (Action.Register d v) n ⌝ }
 {
-    state_only(states::to_register(s, d, v), n)
+    Effect {
+        state: s,
+        action: Action::Register(d, v),
+        cycles: n,
+    }
 }
 
 // The next key, unless the keys are at their end.

@@ -1,10 +1,11 @@
 // What goes to the stack and comes from it, with SP.
 use super::Action;
 use super::Effect;
+use super::moves::moved;
 use super::state_only;
 use model::State;
 ghost use mathlib.Core.Path.{_≡_};
-ghost use Rattle.model.specs.State.{spAfterPush, spAfterPop, withRegister, withPc, withSp};
+ghost use Rattle.model.specs.State.{spAfterPush, spAfterPop, withPc, withSp};
 ghost use Rattle.effects.specs.internal.Effects.{effect};
 
 // SP minus one, then the byte at SP.
@@ -22,20 +23,19 @@ pub fn pushed(s: State, v: u8, n: u8) -> Effect
 
 // The byte v at SP was read; then SP plus one.
 pub fn popped(s: State, d: u8, v: u8) -> Effect
-    ensures { λ r. ⌜ r ≡ effect (withRegister (withSp s (spAfterPop (s .sp))) d v) Action.Nothing 4 ⌝ }
+    ensures { λ r. ⌜ r ≡ effect (withSp s (spAfterPop (s .sp))) (Action.Register d v) 4 ⌝ }
 {
     let a = states::sp_after_pop(s.sp);
-    state_only(states::to_register(states::to_sp(s, a), d, v), 4)
+    moved(states::to_sp(s, a), d, v, 4)
 }
 
 // The byte v goes to SP, and the old byte there to a register.
 pub fn swapped(s: State, d: u8, old: u8, v: u8) -> Effect
-    ensures { λ r. ⌜ r ≡ effect (withRegister s d old) (Action.Stack (s .sp) v) 5 ⌝ }
+    ensures { λ r. ⌜ r ≡ effect s (Action.Swap d old (s .sp) v) 5 ⌝ }
 {
-    let t = states::to_register(s, d, old);
     Effect {
-        state: t,
-        action: Action::Stack(s.sp, v),
+        state: s,
+        action: Action::Swap(d, old, s.sp, v),
         cycles: 5,
     }
 }

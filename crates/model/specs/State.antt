@@ -22,9 +22,12 @@ spAfterPop sp = (sp + 1) % 256
 abbrev pub register : State → ℕ → ℕ
 register s r = getD (s .regs) r 0
 
+abbrev pub withRegisters : State → List ℕ → State
+withRegisters s regs =
+    record { regs = regs; pc = s .pc; sp = s .sp; out = s .out; flags = s .flags; halted = s .halted; position = s .position }
+
 abbrev pub withRegister : State → ℕ → ℕ → State
-withRegister s r v =
-    record { regs = set (s .regs) r v; pc = s .pc; sp = s .sp; out = s .out; flags = s .flags; halted = s .halted; position = s .position }
+withRegister s r v = withRegisters s (set (s .regs) r v)
 
 abbrev pub withPc : State → ℕ → State
 withPc s n =

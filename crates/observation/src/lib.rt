@@ -7,6 +7,7 @@ use model::State;
 use model::Stop;
 use model::Verdict;
 use pages::put;
+use states::to_registers;
 use stepping::step;
 ghost use mathlib.Core.Path.{_≡_};
 ghost use Prim.Native.Nat.{_+_, _<_, _≤_};
@@ -60,13 +61,24 @@ pub fn observe(
         return ended(Stop::Halted, 0, 0, 0, start);
     }
     let mut s = start;
+    let mut regs = start.regs;
     let mut written: usize = 0;
     let mut noted: usize = 0;
     let mut steps: u32 = 0;
     let mut cycles: u32 = 0;
     while steps < budget {
         let pc = s.pc;
-        let result = step(opcodes, arguments, keys, ram, stack, roll, written, s);
+        let result = step(
+            opcodes,
+            arguments,
+            keys,
+            ram,
+            stack,
+            roll,
+            written,
+            s,
+            &mut regs,
+        );
         s = result.state;
         written = result.words;
         let verdict = result.verdict;
@@ -76,11 +88,17 @@ pub fn observe(
                 steps = steps + 1;
                 cycles = cycles + result.cycles;
                 if s.halted {
-                    return ended(Stop::Halted, steps, cycles, written, s);
+                    return ended(Stop::Halted, steps, cycles, written, to_registers(s, regs));
                 }
             }
-            Verdict::Stopped(stop) => return ended(stop, steps, cycles, written, s),
+            Verdict::Stopped(stop) => return ended(
+                stop,
+                steps,
+                cycles,
+                written,
+                to_registers(s, regs),
+            ),
         }
     }
-    ended(last_stop(s), steps, cycles, written, s)
+    ended(last_stop(s), steps, cycles, written, to_registers(s, regs))
 }

@@ -1,10 +1,10 @@
 // The state with one part changed, and where SP moves.
-mod registers;
+pub mod registers;
 
 use alu::Flags;
 use model::State;
 ghost use mathlib.Core.Path.{_≡_};
-ghost use Rattle.model.specs.State.{spAfterPush, spAfterPop, register, withRegister, withPc, withSp, withOut, withFlags, withHalted, withPosition};
+ghost use Rattle.model.specs.State.{spAfterPush, spAfterPop, withRegisters, withPc, withSp, withOut, withFlags, withHalted, withPosition};
 
 // SP after a push or a call.
 pub fn sp_after_push(sp: u8) -> u8
@@ -18,14 +18,6 @@ pub fn sp_after_pop(sp: u8) -> u8
     ensures { λ r. ⌜ r ≡ spAfterPop sp ⌝ }
 {
     std::num::wrapping_add_u8(sp, 1)
-}
-
-// A register's byte.
-pub fn register_of(s: State, r: u8) -> u8
-    ensures { λ n. ⌜ n ≡ register s r ⌝ }
-{
-    let g = s.regs;
-    registers::read(g, r)
 }
 
 // A state of these parts. A changed state is written whole: a copy with one field stored to would be
@@ -52,14 +44,12 @@ fn state(
     }
 }
 
-// The state with a register changed.
-pub fn to_register(s: State, r: u8, v: u8) -> State
-    ensures { λ t. ⌜ t ≡ withRegister s r v ⌝ }
+// The state with its registers changed.
+pub fn to_registers(s: State, regs: [u8; 4]) -> State
+    ensures { λ t. ⌜ t ≡ withRegisters s regs ⌝ }
 {
-    let g = s.regs;
-    let n = registers::with_register(g, r, v);
     let f = s.flags;
-    state(n, s.pc, s.sp, s.out, f, s.halted, s.position)
+    state(regs, s.pc, s.sp, s.out, f, s.halted, s.position)
 }
 
 // The state with PC changed.

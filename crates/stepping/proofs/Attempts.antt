@@ -13,6 +13,7 @@ use Rattle.isa.specs.Table.{cyclesOf}
 use Rattle.isa.specs.declared.Instr.{Instr}
 use Rattle.model.specs.Plan.{planOf}
 use Rattle.model.specs.Run.{testsOverflow, firstStop, verdictOf, verdictAt, attempt, attemptOf, stepsBy}
+use Rattle.model.specs.State.{withRegisters}
 use Rattle.model.specs.Step.{Setting, setting, Machine, machineAt, instrAt, fetched, appliedOf, stepOf}
 use Rattle.model.specs.declared.State.{State}
 use Rattle.model.specs.declared.Stop.{Stop}
@@ -40,9 +41,9 @@ module _ (ops args keys : List ℕ) (s : State) (ram stack roll : List ℕ) (wor
   unfolding attemptOf verdictOf
   halted-prevents h = rw h
 
-  -- one that is not, with the effect e of its next instruction and the action b in it
-  module _ (e : Effect) (b : Action) (is : e .action ≡ b) (awake : s .halted ≡ false)
-      (j : behaviorBy e ≡ behaviorOf (instrAt (x .program) (s .pc)) (fetched s) (getD stack (s .sp) 0) ram keys) where
+  -- one that is not, with the effect e of its next instruction, the registers beside e's state, and the action b in it
+  module _ (regs : List ℕ) (e : Effect) (b : Action) (is : e .action ≡ b) (awake : s .halted ≡ false)
+      (j : behaviorBy regs e ≡ behaviorOf (instrAt (x .program) (s .pc)) (fetched s) (getD stack (s .sp) 0) ram keys) where
     abbrev unsettled : Bool
     unsettled = testsBy b && not (isSettled (s .flags .v))
 
@@ -56,16 +57,16 @@ module _ (ops args keys : List ℕ) (s : State) (ram stack roll : List ℕ) (wor
         let w : sendsBy b ≡ writesRoll (instrAt (x .program) (s .pc)) = ap sendsBy (sym is) ∙ ap (λ (t : Behavior). t .sends) j in
         rw (awake, t, w)
 
-    step-by : stepOf x m ≡ appliedOf (planBy (e .state) b) (e .cycles) m
+    step-by : stepOf x m ≡ appliedOf (planBy (withRegisters (e .state) regs) b) (e .cycles) m
     unfolding stepOf
     step-by =
-        let p : planBy (e .state) b ≡ planOf (fetched s) (getD stack (s .sp) 0) ram keys (instrAt (x .program) (s .pc)) =
-        ap (planBy (e .state)) (sym is) ∙ ap (λ (t : Behavior). t .plan′) j in
+        let p : planBy (withRegisters (e .state) regs) b ≡ planOf (fetched s) (getD stack (s .sp) 0) ram keys (instrAt (x .program) (s .pc)) =
+        ap (planBy (withRegisters (e .state) regs)) (sym is) ∙ ap (λ (t : Behavior). t .plan′) j in
         let n : e .cycles ≡ cyclesOf (instrAt (x .program) (s .pc)) = ap (λ (t : Behavior). t .cycles) j in
         rw (p, n)
 
     pub step-made : (n : ℕ) (s′ : State) (ram′ stack′ roll′ : List ℕ) (words′ : ℕ) → n ≡ e .cycles → unsettled ≡ false → full ≡ false
-        → appliedOf (planBy (e .state) b) n m ≡ machineAt s′ ram′ stack′ roll′ words′ (0 + 1) (0 + n)
+        → appliedOf (planBy (withRegisters (e .state) regs) b) n m ≡ machineAt s′ ram′ stack′ roll′ words′ (0 + 1) (0 + n)
         → attempt Go n (machineAt s′ ram′ stack′ roll′ words′ 1 n) ≡ attemptOf x m
     unfolding attemptOf
     step-made n s′ ram′ stack′ roll′ words′ q u f made =

@@ -3,11 +3,13 @@ use effects::Action;
 use model::State;
 use model::Stop;
 use model::Verdict;
+use states::registers::write;
 ghost use mathlib.Core.Path.{_≡_};
 ghost use Prim.Native.Nat.{_+_, _<_, _≤_};
 ghost use lib.ListN.{length, set};
 ghost use Rattle.effects.specs.internal.Effects.{operated};
 ghost use Rattle.model.specs.Run.{attempt, attemptOf, stepsBy};
+ghost use Rattle.model.specs.State.{withRegisters};
 ghost use Rattle.model.specs.Step.{setting, machineAt};
 
 // A step, or the stop that prevents it: the verdict, the cycles, and the roll words and the state
@@ -50,14 +52,15 @@ fn prevented(stop: Stop, words: usize, state: State) -> StepResult
     }
 }
 
-// The state after function f of x and y, with the result in register d.
-fn operate(s: State, d: u8, f: u8, x: u8, y: u8) -> State
-    ensures { λ r. ⌜ r ≡ operated s d f x y ⌝ }
+// Function f of x and y: its result is put into register d, and the state has its flags.
+fn operate(s: State, regs: &mut [u8; 4], d: u8, f: u8, x: u8, y: u8) -> State
+    ensures { λ r. ⌜ withRegisters r (now (regs .exit)) ≡ operated (withRegisters s (now (regs .entry))) d f x y ⌝ }
 {
     let before = s.flags;
     let o = alu::alu(f, x, y, before.c);
     let after = o.flags;
-    states::to_register(states::to_flags(s, after), d, o.value)
+    write(regs, d, o.value);
+    states::to_flags(s, after)
 }
 
 // A word is put at the roll's next free place, and the place after it is handed back.
@@ -69,7 +72,8 @@ fn send(roll: &mut [u16], words: usize, w: u16) -> usize
     words + 1
 }
 
-// One step, or the stop that prevents it, at a machine with budget left.
+// One step, or the stop that prevents it, at a machine with budget left. The registers are lent
+// beside the state, whose own aren't looked at.
 pub fn step(
     opcodes: &[u8],
     arguments: &[u8],
@@ -79,8 +83,9 @@ pub fn step(
     roll: &mut [u16],
     words: usize,
     s: State,
+    regs: &mut [u8; 4],
 ) -> StepResult
-    ensures { λ r. ⌜ (attempt (r .verdict) (r .cycles) (machineAt (r .state) (now (ram .exit)) (now (stack .exit)) (now (roll .exit)) (r .words) (stepsBy (r .verdict)) (r .cycles)) ≡ attemptOf (setting (now (opcodes .entry)) (now (arguments .entry)) (now (keys .entry))) (machineAt s (now (ram .entry)) (now (stack .entry)) (now (roll .entry)) words 0 0)) × (r .cycles ≤ 255) ⌝ }
+    ensures { λ r. ⌜ (attempt (r .verdict) (r .cycles) (machineAt (withRegisters (r .state) (now (regs .exit))) (now (ram .exit)) (now (stack .exit)) (now (roll .exit)) (r .words) (stepsBy (r .verdict)) (r .cycles)) ≡ attemptOf (setting (now (opcodes .entry)) (now (arguments .entry)) (now (keys .entry))) (machineAt (withRegisters s (now (regs .entry))) (now (ram .entry)) (now (stack .entry)) (now (roll .entry)) words 0 0)) × (r .cycles ≤ 255) ⌝ }
 {
     if s.halted {
         return prevented(Stop::Halted, words, s);
@@ -88,7 +93,7 @@ pub fn step(
     let pc = s.pc;
     let opcode = slices::load(opcodes, pc);
     let argument = slices::load(arguments, pc);
-    let e = execution::execute(opcode, argument, s, keys, ram, stack);
+    let e = execution::execute(opcode, argument, s, regs, keys, ram, stack);
     let n = widen(e.cycles);
     let action = e.action;
     let next = e.state;
@@ -103,12 +108,21 @@ pub fn step(
                 prevented(Stop::Unsettled, words, s)
             }
         }
+        Action::Register(d, v) => {
+            write(regs, d, v);
+            made(n, words, next)
+        }
         Action::Data(a, x) => {
             slices::store(ram, a, x);
             made(n, words, next)
         }
         Action::Stack(a, x) => {
             slices::store(stack, a, x);
+            made(n, words, next)
+        }
+        Action::Swap(d, old, a, v) => {
+            write(regs, d, old);
+            slices::store(stack, a, v);
             made(n, words, next)
         }
         Action::Roll(w) => {
@@ -120,7 +134,7 @@ pub fn step(
             }
         }
         Action::Compute(d, f, x, y) => {
-            let after = operate(next, d, f, x, y);
+            let after = operate(next, regs, d, f, x, y);
             made(n, words, after)
         }
     }

@@ -9,7 +9,7 @@ use Rattle.isa.specs.Table.{cyclesOf}
 use Rattle.isa.specs.declared.Instr.{Instr}
 use Rattle.model.specs.Plan.{Plan, plan, noWrite, planOf}
 use Rattle.model.specs.Run.{testsOverflow}
-use Rattle.model.specs.State.{withRegister, withFlags}
+use Rattle.model.specs.State.{withRegisters, withRegister, withFlags}
 use Rattle.model.specs.declared.State.{State}
 use Rattle.model.specs.declared.Write.the-variants.{Data, Stack, Roll}
 use Rattle.effects.specs.declared.Action.{Action}
@@ -23,28 +23,34 @@ effect s a n = record { state = s; action = a; cycles = n }
 abbrev pub operated : State → ℕ → ℕ → ℕ → ℕ → State
 operated s d f x y = withRegister (withFlags s (aluOf f x y (s .flags .c) .flags)) d (aluOf f x y (s .flags .c) .value)
 
--- the plan of an action at a state
+-- the plan of an action at a state with all its parts
 abbrev pub planBy : State → Action → Plan
 planBy s action.Nothing = noWrite s
 planBy s action.TestV = noWrite s
+planBy s (action.Register d v) = noWrite (withRegister s d v)
 planBy s (action.Data a v) = plan s (Data a v)
 planBy s (action.Stack a v) = plan s (Stack a v)
+planBy s (action.Swap d v a w) = plan (withRegister s d v) (Stack a w)
 planBy s (action.Roll w) = plan s (Roll w)
 planBy s (action.Compute d f x y) = noWrite (operated s d f x y)
 
 abbrev pub testsBy : Action → Bool
 testsBy action.Nothing = false
 testsBy action.TestV = true
+testsBy (action.Register d v) = false
 testsBy (action.Data a v) = false
 testsBy (action.Stack a v) = false
+testsBy (action.Swap d v a w) = false
 testsBy (action.Roll w) = false
 testsBy (action.Compute d f x y) = false
 
 abbrev pub sendsBy : Action → Bool
 sendsBy action.Nothing = false
 sendsBy action.TestV = false
+sendsBy (action.Register d v) = false
 sendsBy (action.Data a v) = false
 sendsBy (action.Stack a v) = false
+sendsBy (action.Swap d v a w) = false
 sendsBy (action.Roll w) = true
 sendsBy (action.Compute d f x y) = false
 
@@ -55,8 +61,10 @@ pub record Behavior : Type 0 where
   pub tests : Bool
   pub sends : Bool
 
-abbrev pub behaviorBy : Effect → Behavior
-behaviorBy e = record { plan′ = planBy (e .state) (e .action); cycles = e .cycles; tests = testsBy (e .action); sends = sendsBy (e .action) }
+-- by an effect, whose state has its registers beside it
+abbrev pub behaviorBy : List ℕ → Effect → Behavior
+behaviorBy regs e =
+    record { plan′ = planBy (withRegisters (e .state) regs) (e .action); cycles = e .cycles; tests = testsBy (e .action); sends = sendsBy (e .action) }
 
 abbrev pub behaviorOf : Instr → State → ℕ → List ℕ → List ℕ → Behavior
 behaviorOf i s top ram keys =

@@ -1,4 +1,4 @@
--- Flags, then the register.
+-- The register, then the flags.
 -- Assumes nothing.
 use borrow.Author.Needs.{needs}
 use Rattle.stepping.proofs.operate.Statement.{statement}
@@ -11,4 +11,4 @@ operate-spec =
     (λ c κs. search needs)
     (λ c κs. search needs)
     (λ c κs. search needs)
-    (λ c. rw (c .to-register .ensures, c .before .to-flags .ensures, c .before .before .before .alu .ensures .table)))
+    (λ c. rw (c .to-flags .ensures, c .before .write .ensures, c .before .before .before .before .alu .ensures .table)))

@@ -1,4 +1,4 @@
--- Flags and register of the result.
+-- The flags in the state, and the result to the register.
 -- Assumes nothing.
 use borrow.Author.Needs.{needs}
 use Rattle.effects.proofs.results.computed.Statement.{statement}
@@ -10,5 +10,4 @@ computed-spec =
     (tie.spec
     (λ c κs. search needs)
     (λ c κs. search needs)
-    (λ c κs. search needs)
-    (λ c. rw (c .state-only .ensures, c .before .to-register .ensures, c .before .before .to-flags .ensures)))
+    (λ c. rw (c .moved .ensures, c .before .to-flags .ensures)))

@@ -1,4 +1,4 @@
--- SP and the register.
+-- SP in the state, and the byte to the register.
 -- Assumes nothing.
 use borrow.Author.Needs.{needs}
 use Rattle.effects.proofs.stack.popped.Statement.{statement}
@@ -11,5 +11,4 @@ popped-spec =
     (λ c κs. search needs)
     (λ c κs. search needs)
     (λ c κs. search needs)
-    (λ c κs. search needs)
-    (λ c. rw (c .state-only .ensures, c .before .to-register .ensures, c .before .before .to-sp .ensures, c .before .before .before .sp-after-pop .ensures)))
+    (λ c. rw (c .moved .ensures, c .before .to-sp .ensures, c .before .before .sp-after-pop .ensures)))

@@ -1,2 +1,0 @@
--- Definitions that only contracts of the step's own functions cite; no promise to a user rests on them.
-pub mod Operands
