@@ -85,12 +85,6 @@ pub fn execute(
 ) -> Effect
     ensures { λ r. ⌜ behaviorBy (now (regs .entry)) r ≡ behaviorOf (decodeOf opcode argument) (fetched (withRegisters s (now (regs .entry)))) (getD (now (stack .entry)) (s .sp) 0) (now (ram .entry)) (now (keys .entry)) ⌝ }
 {
-    execute_form(
-        decoding::decode(opcode, argument),
-        s,
-        regs,
-        keys,
-        ram,
-        stack,
-    )
+    let instr = decoding::decode(opcode, argument);
+    execute_form(instr, s, regs, keys, ram, stack)
 }

@@ -15,7 +15,7 @@ use Rattle.machine.proofs.run_steps.Tie as tie
 
 abbrev Inv-loop : tie.InvT-loop
 Inv-loop opcodes arguments keys ram₀ stack₀ roll₀ budget words s₀ regs₀ written₀ steps₀ cycles₀ ram stack roll s regs written steps cycles =
-    LoopInvariant (setting opcodes arguments keys) budget (machineAt (withRegisters s₀ regs₀) ram₀ stack₀ roll₀ written₀ steps₀ cycles₀)
+    LoopInvariant (setting opcodes arguments keys) budget (machineAt s₀ ram₀ stack₀ roll₀ written₀ steps₀ cycles₀)
     (machineAt (withRegisters s regs) ram stack roll written steps cycles)
 
 abbrev μ-loop : tie.MeasureT-loop

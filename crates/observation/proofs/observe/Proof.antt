@@ -14,7 +14,7 @@ use Rattle.observation.proofs.observe.Tie as tie
 
 abbrev Inv-loop : tie.InvT-loop
 Inv-loop opcodes arguments keys ram₀ stack₀ roll₀ counters₀ log₀ budget s₀ regs₀ written₀ noted₀ steps₀ cycles₀ ram stack roll counters log s regs written noted steps cycles =
-    ObservedLoop (setting opcodes arguments keys) budget (machineAt (withRegisters s₀ regs₀) ram₀ stack₀ roll₀ written₀ steps₀ cycles₀) counters₀ log₀
+    ObservedLoop (setting opcodes arguments keys) budget (machineAt s₀ ram₀ stack₀ roll₀ written₀ steps₀ cycles₀) counters₀ log₀
     (machineAt (withRegisters s regs) ram stack roll written steps cycles) counters (page log noted)
 
 abbrev μ-loop : tie.MeasureT-loop

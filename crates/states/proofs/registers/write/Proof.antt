@@ -1,9 +1,10 @@
 -- The place put back is the changed one; past the four nothing changes.
 -- Assumes nothing.
-use Prim.Native.Nat.{_<_}
-use mathlib.Core.Path.{_≡_, sym}
+use Prim.Native.Nat.{ℕ, _<_}
+use mathlib.Core.List.{List}
+use mathlib.Core.Path.{_≡_, sym, ap, _∙_}
 use native.Mathlib.Omega.{arith}
-use lib.ListN.{length}
+use lib.ListN.{length, getD, set}
 use lib.Seq.{set-out, getD-set-same}
 use borrow.Author.Needs.{needs}
 use Rattle.states.proofs.registers.write.Statement.{statement}
@@ -29,5 +30,5 @@ write-spec =
     (λ c. omega (arith, inside c, known c))
     (λ c.
     let a = entry c .args in
-    rw (c .with-register .ensures, getD-set-same (a .regs .now) (a .r) (a .v) 0 (omega (arith, inside c))))
+    ap (set (a .regs .now) (a .r)) (ap (λ (l : List ℕ). getD l (a .r) 0) (c .with-register .ensures) ∙ getD-set-same (a .regs .now) (a .r) (a .v) 0 (inside c)))
     (λ c. sym (set-out _ _ _ (omega (arith, c .if1 .left, c .before .count .ensures)))))
