@@ -28,7 +28,7 @@ ghost use Rattle.model.specs.Step.{fetched};
 ghost use Rattle.isa.specs.Decode.{decodeOf};
 ghost use Rattle.effects.specs.internal.Effects.{behaviorBy, behaviorOf};
 
-// The effect of an instruction at the state before its fetch, its registers lent beside it.
+// The effect of an instruction at the state before its fetch, the registers lent beside it.
 fn execute_form(
     instr: Instr,
     before: State,
@@ -73,7 +73,8 @@ fn execute_form(
     }
 }
 
-// The effect of the instruction that two bytes make, at the state before its fetch.
+// The effect of the instruction that two bytes make, at the state before its fetch, the registers
+// lent beside it.
 pub fn execute(
     opcode: u8,
     argument: u8,

@@ -68,17 +68,8 @@ pub fn observe(
     let mut cycles: u32 = 0;
     while steps < budget {
         let pc = s.pc;
-        let result = step(
-            opcodes,
-            arguments,
-            keys,
-            ram,
-            stack,
-            roll,
-            written,
-            s,
-            &mut regs,
-        );
+        let lent = &mut regs;
+        let result = step(opcodes, arguments, keys, ram, stack, roll, written, s, lent);
         s = result.state;
         written = result.words;
         let verdict = result.verdict;
@@ -88,17 +79,16 @@ pub fn observe(
                 steps = steps + 1;
                 cycles = cycles + result.cycles;
                 if s.halted {
-                    return ended(Stop::Halted, steps, cycles, written, to_registers(s, regs));
+                    let reached = to_registers(s, regs);
+                    return ended(Stop::Halted, steps, cycles, written, reached);
                 }
             }
-            Verdict::Stopped(stop) => return ended(
-                stop,
-                steps,
-                cycles,
-                written,
-                to_registers(s, regs),
-            ),
+            Verdict::Stopped(stop) => {
+                let reached = to_registers(s, regs);
+                return ended(stop, steps, cycles, written, reached);
+            }
         }
     }
-    ended(last_stop(s), steps, cycles, written, to_registers(s, regs))
+    let reached = to_registers(s, regs);
+    ended(last_stop(s), steps, cycles, written, reached)
 }

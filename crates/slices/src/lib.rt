@@ -26,7 +26,7 @@ pub fn part(s: &[u8], at: usize, n: usize) -> &[u8]
     &s[at..at + n]
 }
 
-// The byte at an address; 0 past the bank's end.
+// The byte at a place that a byte numbers, as an address or a register; 0 past the end.
 pub fn load(bank: &[u8], a: u8) -> u8
     ensures { λ r. ⌜ r ≡ getD (now (bank .entry)) a 0 ⌝ }
 {

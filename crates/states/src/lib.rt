@@ -1,4 +1,4 @@
-// The state with one part changed, and where SP moves.
+// The state with one part changed, and where SP moves; the registers, which a run holds beside it.
 pub mod registers;
 
 use alu::Flags;

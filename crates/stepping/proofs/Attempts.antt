@@ -1,6 +1,6 @@
 -- An attempt at a step from the effect of the next instruction: which stop prevents it, and else the step that it makes.
 -- Assumes nothing.
-use mathlib.Core.Path.{_≡_, refl, sym, ap, _∙_}
+use mathlib.Core.Path.{_≡_, sym, ap, _∙_}
 use mathlib.Core.Bool.{Bool, true, false, not, _&&_}
 use mathlib.Core.List.{List}
 use Prim.Native.Nat.{ℕ, suc, _+_}
@@ -10,7 +10,6 @@ use lib.ListN.{length, getD}
 use Rattle.alu.specs.Alu.{isSettled}
 use Rattle.isa.specs.Facts.{writesRoll}
 use Rattle.isa.specs.Table.{cyclesOf}
-use Rattle.isa.specs.declared.Instr.{Instr}
 use Rattle.model.specs.Plan.{planOf}
 use Rattle.model.specs.Run.{testsOverflow, firstStop, verdictOf, verdictAt, attempt, attemptOf, stepsBy}
 use Rattle.model.specs.State.{withRegisters}

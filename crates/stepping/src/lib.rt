@@ -13,7 +13,7 @@ ghost use Rattle.model.specs.State.{withRegisters};
 ghost use Rattle.model.specs.Step.{setting, machineAt};
 
 // A step, or the stop that prevents it: the verdict, the cycles, and the roll words and the state
-// afterwards.
+// afterwards, but for its registers.
 pub struct StepResult {
     pub verdict: Verdict,
     pub cycles: u32,
@@ -73,7 +73,7 @@ fn send(roll: &mut [u16], words: usize, w: u16) -> usize
 }
 
 // One step, or the stop that prevents it, at a machine with budget left. The registers are lent
-// beside the state, whose own aren't looked at.
+// beside the state, whose own are neither looked at nor set.
 pub fn step(
     opcodes: &[u8],
     arguments: &[u8],

@@ -35,11 +35,11 @@ branchEffectOf s (outcome.Jump a) = effect (withPc s a) action.Nothing 3
 branchEffectOf s outcome.TestedNext = effect s action.TestV 3
 branchEffectOf s (outcome.TestedJump a) = effect (withPc s a) action.TestV 3
 
--- what a step goes by that goes to address a where b holds, with this action
+-- the behavior of a jump to address a where b holds, with this action
 abbrev pub goingTo : State → Action → Bool → ℕ → Behavior
 goingTo s t b a = record { plan′ = planBy (cond b (withPc s a) s) t; cycles = 3; tests = testsBy t; sends = sendsBy t }
 
--- an outcome that does, whatever lies in the registers
+-- an outcome that has this behavior, whatever lies in the registers
 abbrev pub Goes : BranchOutcome → Action → Bool → ℕ → Type 0
 Goes c t b a = (s : State) (regs : List ℕ) → behaviorBy regs (branchEffectOf s c) ≡ goingTo (withRegisters s regs) t b a
 

@@ -23,14 +23,14 @@ effect s a n = record { state = s; action = a; cycles = n }
 abbrev pub operated : State → ℕ → ℕ → ℕ → ℕ → State
 operated s d f x y = withRegister (withFlags s (aluOf f x y (s .flags .c) .flags)) d (aluOf f x y (s .flags .c) .value)
 
--- the plan of an action at a state with all its parts
+-- the plan of an action at a state that has its registers
 abbrev pub planBy : State → Action → Plan
 planBy s action.Nothing = noWrite s
 planBy s action.TestV = noWrite s
 planBy s (action.Register d v) = noWrite (withRegister s d v)
 planBy s (action.Data a v) = plan s (Data a v)
 planBy s (action.Stack a v) = plan s (Stack a v)
-planBy s (action.Swap d v a w) = plan (withRegister s d v) (Stack a w)
+planBy s (action.Swap d old a v) = plan (withRegister s d old) (Stack a v)
 planBy s (action.Roll w) = plan s (Roll w)
 planBy s (action.Compute d f x y) = noWrite (operated s d f x y)
 
@@ -40,7 +40,7 @@ testsBy action.TestV = true
 testsBy (action.Register d v) = false
 testsBy (action.Data a v) = false
 testsBy (action.Stack a v) = false
-testsBy (action.Swap d v a w) = false
+testsBy (action.Swap d old a v) = false
 testsBy (action.Roll w) = false
 testsBy (action.Compute d f x y) = false
 
@@ -50,7 +50,7 @@ sendsBy action.TestV = false
 sendsBy (action.Register d v) = false
 sendsBy (action.Data a v) = false
 sendsBy (action.Stack a v) = false
-sendsBy (action.Swap d v a w) = false
+sendsBy (action.Swap d old a v) = false
 sendsBy (action.Roll w) = true
 sendsBy (action.Compute d f x y) = false
 
@@ -61,7 +61,7 @@ pub record Behavior : Type 0 where
   pub tests : Bool
   pub sends : Bool
 
--- by an effect, whose state has its registers beside it
+-- the behavior of an effect, the registers lent beside its state
 abbrev pub behaviorBy : List ℕ → Effect → Behavior
 behaviorBy regs e =
     record { plan′ = planBy (withRegisters (e .state) regs) (e .action); cycles = e .cycles; tests = testsBy (e .action); sends = sendsBy (e .action) }

@@ -49,7 +49,7 @@ defined c i s = behaviorOf i (withRegisters s (regs c)) (top c) (c .args .ram .n
 top-kept : (f : tie.After-to-pc) → getD (entry f .args .stack .now) (f .to-pc .result .sp) 0 ≡ top (entry f)
 top-kept f = ap (λ (s : State). getD (entry f .args .stack .now) (s .sp) 0) (after-fetch f)
 
--- a choice between two states leaves the registers beside them
+-- registers put beside a choice of states are put beside each of the two
 chosen-beside : (b : Bool) (s t : State) (regs : List ℕ) → withRegisters (cond b s t) regs ≡ cond b (withRegisters s regs) (withRegisters t regs)
 chosen-beside true s t regs = refl
 chosen-beside false s t regs = refl

@@ -101,7 +101,7 @@ returns-3 c =
 returns-4 : tie.Need-returns-4 Inv-loop μ-loop
 returns-4 c =
     let p = c .before .before .before .before in
-    rw (c .ended4 .ensures, c .before .to-registers3 .ensures, c .before .before .last-stop .ensures) (ap reported (loop-ends (p .loop .inv) (c .before .before .before .loop-test .left)))
+    rw (c .ended4 .ensures, c .before .last-stop .ensures, c .before .before .to-registers3 .ensures) (ap reported (loop-ends (p .loop .inv) (c .before .before .before .loop-test .left)))
 
 pub run-steps-spec : {M : Type 1} → statement M
 run-steps-spec =

@@ -139,7 +139,7 @@ returns-3 c =
 returns-4 : tie.Need-returns-4 Inv-loop μ-loop
 returns-4 c =
     let p = c .before .before .before .before in
-    observing-ends (p .loop .inv) (entry p .pre .1) (c .before .before .before .loop-test .left) (rw (c .ended4 .ensures, c .before .to-registers3 .ensures, c .before .before .last-stop .ensures))
+    observing-ends (p .loop .inv) (entry p .pre .1) (c .before .before .before .loop-test .left) (rw (c .ended4 .ensures, c .before .last-stop .ensures, c .before .before .to-registers3 .ensures))
 
 pub observe-spec : {M : Type 1} → statement M
 observe-spec =

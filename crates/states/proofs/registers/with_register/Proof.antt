@@ -1,6 +1,6 @@
 -- A place below four is stored to; past the four nothing changes.
 -- Assumes nothing.
-use mathlib.Core.Path.{sym}
+use mathlib.Core.Path.{refl, sym}
 use native.Mathlib.Omega.{arith}
 use lib.Seq.{set-out}
 use borrow.Author.Needs.{needs}
@@ -12,5 +12,5 @@ with-register-spec =
     tie.close
     (tie.spec
     (λ c. search needs)
-    (λ c. search needs)
+    (λ c. refl)
     (λ c. sym (set-out _ _ _ (omega (arith, c .before .good .0)))))
