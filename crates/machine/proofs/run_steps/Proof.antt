@@ -1,12 +1,15 @@
 -- The loop's invariant is that what is left of the run is the run from the start; each need is one of its laws.
 -- Assumes nothing.
-use mathlib.Core.Path.{refl, sym, ap, _∙_}
-use Prim.Native.Nat.{_-_}
+use mathlib.Core.Path.{_≡_, refl, sym, ap, _∙_}
+use mathlib.Core.List.{List}
+use Prim.Native.Nat.{ℕ, _-_}
 use native.Mathlib.Omega.{arith}
 use borrow.Author.Needs.{needs}
-use Rattle.model.specs.Run.{reported}
+use Rattle.model.specs.Run.{Outcome, outcome, reported}
 use Rattle.model.specs.State.{withRegisters}
 use Rattle.model.specs.Step.{setting, machineAt}
+use Rattle.model.specs.declared.Answer.{Answer}
+use Rattle.model.specs.declared.State.{State}
 use Rattle.model.proofs.Runs.{halted-stays}
 use Rattle.stepping.proofs.Attempts.{attempted}
 use Rattle.machine.proofs.RunLoop.{LoopInvariant, loop-starts, loop-goes, loop-stops, loop-halts, loop-ends}
@@ -35,6 +38,10 @@ looped c = tested c .before
 
 abbrev entry : tie.At-loop Inv-loop μ-loop → tie.Start Inv-loop μ-loop
 entry c = c .before .before .before .before .before .before .before .before .before
+
+-- the state that is reported
+reached-by : {a : Answer} {s t : State} {ram stack roll : List ℕ} {o : Outcome} → s ≡ t → outcome a t ram stack roll ≡ o → outcome a s ram stack roll ≡ o
+reached-by e q = rw e q
 
 -- ---- the answers
 
@@ -101,7 +108,8 @@ returns-3 c =
 returns-4 : tie.Need-returns-4 Inv-loop μ-loop
 returns-4 c =
     let p = c .before .before .before .before in
-    rw (c .ended4 .ensures, c .before .last-stop .ensures, c .before .before .to-registers3 .ensures) (ap reported (loop-ends (p .loop .inv) (c .before .before .before .loop-test .left)))
+    rw (c .ended4 .ensures, c .before .last-stop .ensures)
+    (reached-by (c .before .before .to-registers3 .ensures) (ap reported (loop-ends (p .loop .inv) (c .before .before .before .loop-test .left))))
 
 pub run-steps-spec : {M : Type 1} → statement M
 run-steps-spec =
