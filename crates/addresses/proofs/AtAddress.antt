@@ -10,7 +10,7 @@ use Rattle.isa.specs.Decode.{decodeOf}
 use Rattle.isa.specs.Facts.{classOf}
 use Rattle.isa.specs.declared.Class.{Class}
 use Rattle.model.specs.Step.{instrAt}
-use Rattle.rules.specs.Grounds.{callee, badSuccessor, anyBad, rulesAt, addressChecks}
+use Rattle.rules.specs.Grounds.{callee, badSuccessor, anyBad, rulesAt, addressChecksBy, addressChecks}
 use Rattle.slices.specs.Checks.{firstBroken}
 use Rattle.rules.specs.Sheet.{listing, word, described, marked, routine, depth, routines, entry, need, classAt}
 use Rattle.rules.specs.Successors.{Successor, successors}
@@ -19,7 +19,7 @@ use Rattle.sheets.specs.internal.Words.{wordOf}
 
 module _ (o g s l : List ℕ) (a : ℕ) where
   pub undescribed-answer : wordOf s a .described ≡ false → 0 ≡ firstBroken (addressChecks (listing o g s l) a)
-  unfolding firstBroken addressChecks described word wordOf
+  unfolding firstBroken addressChecksBy described word wordOf
   undescribed-answer e = rw (e, firstBroken)
 
   -- the rules look at the banks by the class alone
@@ -42,7 +42,7 @@ module _ (o g s l : List ℕ) (a : ℕ) where
   rules-of-described : (k : Class) → described (listing o g s l) a ≡ true → k ≡ classAt (listing o g s l) a
       → firstBroken (rulesAt (listing o g s l) a k (routine (listing o g s l) a) (depth (listing o g s l) a) (marked (listing o g s l) a))
       ≡ firstBroken (addressChecks (listing o g s l) a)
-  unfolding addressChecks
+  unfolding addressChecksBy
   rules-of-described k e q = rw (e, q)
 
   pub described-answer : (k : Class)

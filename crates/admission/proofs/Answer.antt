@@ -13,12 +13,13 @@ use Rattle.slices.proofs.Checks.{Numbered, none-broken}
 use Rattle.slices.specs.Checks.{Check, check, firstBroken}
 use Rattle.slices.specs.Sizes.{bankSize}
 use Rattle.rules.specs.Demand.{Bytes}
-use Rattle.rules.specs.Grounds.{each, badBanks, badSheet, badList, badBlank, badRoutine, badStart, badEntry, checks, admitOf}
+use Rattle.rules.specs.Grounds.{each, badBanks, badSheet, badList, badBlank, badRoutine, badStart, badEntry, checksBy, admitBy, admitOf}
 use Rattle.rules.specs.Sheet.{Listing, routines, entry}
 use Rattle.rules.specs.internal.Scans.{orElse}
 use Rattle.rules.proofs.AdmittedRules.{numbered-address, one}
 use Rattle.rules.proofs.Answers.{first-demand}
 use Rattle.rules.proofs.CheckLists.{numbered-each}
+use Rattle.rules.proofs.SettlesMore.{remains}
 use Rattle.rules.proofs.Scanning.{first-append, scan-each, scan-clear}
 use Rattle.rules.proofs.ThirdDemand.{demand}
 use Rattle.admission.specs.Admission.{Admission}
@@ -77,7 +78,7 @@ module _ (L : Listing) where
       ap₂ orElse (stage-each s) e ∙ first-append (eachOf s) cs (numbered-each (stageChecks s L) (numbered-stage s) 0 (stagePlaces s (routines L)))
 
   stages-agree : stagesOf L ≡ admitOf L
-  unfolding stagesOf scansOf admitOf checks
+  unfolding stagesOf scansOf admitBy checksBy
   stages-agree =
       let e7 = stage-then Entries _ (stage-each Addresses) in
       let e6 = ap (orElse (startOf L)) e7 ∙ first-append (check 6 0 (badStart L) ∷ []) _ (omega arith, tt) in
@@ -87,4 +88,4 @@ module _ (L : Listing) where
   pub admission : Bytes (L .list) → (answer : ℕ) → answer ≡ stagesOf L → Admission L answer
   admission bytes answer e =
       let q = e ∙ stages-agree in
-      record { answers = q; first = rw q (first-demand L); third = λ z. demand L bytes (sym q ∙ z) }
+      record { answers = q; first = rw q (first-demand L); third = λ z. demand L bytes (sym q ∙ z); remains = remains L answer q }

@@ -5,6 +5,7 @@ use mathlib.Core.Path.{_≡_}
 use mathlib.Core.List.{List}
 use Rattle.rules.specs.Demand.{Starts, Holds}
 use Rattle.rules.specs.FirstDemand.{FirstDemand}
+use Rattle.rules.specs.Former.{Remains}
 use Rattle.rules.specs.Grounds.{admitOf}
 use Rattle.rules.specs.RunLists.{Snapshot, ListedRun}
 use Rattle.rules.specs.Sheet.{Listing}
@@ -16,3 +17,5 @@ pub record Admission (L : Listing) (answer : ℕ) : Type 0 where
   pub first : FirstDemand L answer
   -- 0: every list of runs from every start is safe
   pub third : answer ≡ 0 → (w : Snapshot) → Starts w → (rs : List ListedRun) → Holds L w rs
+  -- 02, [4]: "Listings admitted so far remain admitted"
+  pub remains : Remains L answer

@@ -12,6 +12,7 @@ use run_numbers::TimeNumbers;
 use stepping::StepResult;
 ghost use Rattle.examples.specs.Listings.{Answered};
 ghost use Rattle.examples.specs.Marked.{Marked};
+ghost use Rattle.examples.specs.MovListings.{AnsweredAnew};
 ghost use Rattle.model.specs.Run.{call, stepsBy};
 ghost use Rattle.model.specs.State.{withRegisters};
 ghost use Rattle.model.specs.Step.{setting, machineAt};
@@ -113,9 +114,10 @@ pub fn facts(fields: Fields) -> FactNumbers
     boundary::cesca_facts(fields)
 }
 
-// The marked rows M1 to M10, b being the byte that M8 pushes, and the listings that 01 names: the
-// definitions that the demands rest on give 01's answers.
+// The marked rows M1 to M10, b being the byte that M8 pushes, the listings that 01 names, and those
+// around function 0000: the definitions that the demands rest on give the papers' answers.
 pub fn examples(b: u8)
     ensures marked { λ _. ⌜ Marked b ⌝ }
     ensures answered { λ _. ⌜ Answered ⌝ }
+    ensures anew { λ _. ⌜ AnsweredAnew ⌝ }
 {}

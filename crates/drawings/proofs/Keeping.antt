@@ -1,11 +1,11 @@
 -- Admission's answer 0 and the rules, both ways: what base and drawing use of a listing, and what must be shown of one.
 -- Assumes nothing.
-use Prim.Native.Nat.{ℕ, zero, suc, _+_, _≤_, _<_}
+use Prim.Native.Nat.{ℕ, _+_, _<_}
 use native.Mathlib.Omega.{arith}
 use mathlib.Core.Path.{_≡_, refl, sym, ap, _∙_}
 use mathlib.Core.Logic.{_≢_}
-use mathlib.Core.List.{List, [], _∷_, _++_}
-use mathlib.Core.Bool.{Bool, true, false, not, _&&_, _||_}
+use mathlib.Core.List.{List, [], _∷_}
+use mathlib.Core.Bool.{Bool, true, false, not, _||_}
 use lib.Dec.{eqb, leb, ltb}
 use borrow.Author.Tests.{eqb-true, leb-false, not-false, eq-eqb, ne-eqb, le-ltb, lt-leb}
 use Rattle.isa.specs.declared.Class.{Class}
@@ -13,20 +13,13 @@ use Rattle.isa.specs.declared.Class.the-variants as class
 use Rattle.model.specs.Run.{testsIn}
 use Rattle.slices.proofs.Bools.{by-test}
 use Rattle.slices.proofs.Checks.{none-broken, all-hold}
-use Rattle.slices.specs.Checks.{NoneBroken, Check, check}
-use Rattle.rules.specs.Grounds.{each, callee, isPopOrSwap, isReturn, ofCall, badBanks, badList, badBlank, badRoutine, badStart, badEntry, badSuccessor, anyBad, rulesAt, addressChecks, checks, admitOf}
+use Rattle.slices.specs.Checks.{NoneBroken, check}
+use Rattle.rules.specs.Grounds.{each, callee, isPopOrSwap, isReturn, ofCall, badBanks, badList, badBlank, badRoutine, badStart, badEntry, badSuccessor, anyBad, rulesAt, addressChecksBy, checksBy, admitBy, addressChecks, checks, admitOf}
 use Rattle.rules.specs.Sheet.{Listing, word, described, marked, routine, depth, routines, entry, need, classAt}
 use Rattle.rules.specs.Successors.{Successor, successors, goesOn}
 use Rattle.rules.proofs.AdmittedRules.{described-below, numbered-checks, Fits, FitsAll, Rules, EntryFits, Admitted, admitted}
-use Rattle.rules.proofs.CheckLists.{none-append, none-each}
-use Rattle.rules.proofs.Tests.{absurd-bool, and-false}
-
-and-off : (a b : Bool) → (a ≡ true → b ≡ false) → a && b ≡ false
-and-off true b h = h refl
-and-off false b h = refl
-
-or-off : (a b : Bool) → a ≡ false → b ≡ false → a || b ≡ false
-or-off a b p q = rw (p, q)
+use Rattle.rules.proofs.CheckLists.{none-append, none-each, append-none, each-none}
+use Rattle.rules.proofs.Tests.{absurd-bool, and-false, and-off, or-off}
 
 call-off : (f : ℕ → Bool) (k : Class) → ((t : ℕ) → k ≡ class.Call t → f t ≡ false) → ofCall f k ≡ false
 call-off f (class.Next e) h = refl
@@ -39,18 +32,6 @@ call-off f (class.Push r) h = refl
 call-off f class.Pop h = refl
 call-off f (class.Swap r) h = refl
 call-off f class.Halt h = refl
-
--- ---- lists of checks that hold
-
-append-none : (xs ys : List Check) → NoneBroken xs → NoneBroken ys → NoneBroken (xs ++ ys)
-append-none [] ys p q = q
-append-none (x ∷ xs) ys p q = (p .0, append-none xs ys (p .1) q)
-
-each-none : (f : ℕ → List Check) (n i : ℕ) → ((k : ℕ) → i ≤ k → k < i + n → NoneBroken (f k)) → NoneBroken (each f i n)
-unfolding each
-each-none f zero i h = tt
-each-none f (suc n) i h =
-    append-none (f i) (each f (suc i) n) (h i (omega arith) (omega arith)) (each-none f n (suc i) (λ k l m. h k (omega arith) (omega arith)))
 
 module _ (L : Listing) where
   -- every rule holds: those of `Admitted`, and 1, 3, 4, 5 and 13
@@ -84,7 +65,7 @@ module _ (L : Listing) where
       absurd-bool (sym q ∙ and-false (eqb a 255) (goesOn k) (n .1 .1 .1 .1 .1 .0) (eq-eqb a 255 e))
 
   pub kept : admitOf L ≡ 0 → Kept
-  unfolding admitOf checks addressChecks
+  unfolding admitBy checksBy addressChecksBy
   kept e =
       let m = admitted L e in
       let n = none-broken (checks L) (numbered-checks L) e in
@@ -101,7 +82,7 @@ module _ (L : Listing) where
             named-of a (none-each (λ a. check 5 a (badRoutine L a) ∷ []) 256 0 (n5 .0) a (omega arith) (omega arith) .0) d;
         goes-on = λ a d.
             let low = described-below L (m .sheet-long) a d in
-            goes-of a (classAt L a) (rw (d, addressChecks) at (none-each (addressChecks L) 256 0 (n7 .1) a (omega arith) (omega arith)));
+            goes-of a (classAt L a) (rw (d, addressChecksBy) at (none-each (addressChecks L) 256 0 (n7 .1) a (omega arith) (omega arith)));
       }
 
   -- ---- from the rules to the answer
@@ -143,9 +124,9 @@ module _ (L : Listing) where
   )
 
   address-none : Kept → (a : ℕ) → NoneBroken (addressChecks L a)
-  unfolding addressChecks
+  unfolding addressChecksBy
   address-none m a =
-      by-test (described L a) (λ q. rw (q, addressChecks) (rules-none a (classAt L a) (m .base .rules a q) (m .goes-on a q))) (λ q. rw (q, addressChecks) tt)
+      by-test (described L a) (λ q. rw (q, addressChecksBy) (rules-none a (classAt L a) (m .base .rules a q) (m .goes-on a q))) (λ q. rw (q, addressChecksBy) tt)
 
   entry-off : (r : ℕ) → EntryFits L r → badEntry L r ≡ false
   unfolding badEntry
@@ -160,7 +141,7 @@ module _ (L : Listing) where
   routine-off m a = and-off (described L a) (leb (routines L) (routine L a)) (λ q. lt-leb _ _ (m .named a q))
 
   pub accepted : Kept → admitOf L ≡ 0
-  unfolding admitOf checks
+  unfolding admitBy checksBy
   accepted m =
       let start : badStart L ≡ false = rw (eq-eqb _ _ (m .base .entry-zero)) in
       all-hold (checks L) (

@@ -1,2 +1,3 @@
 pub mod Listings
 pub mod Marked
+pub mod MovListings

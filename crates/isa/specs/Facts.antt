@@ -11,53 +11,65 @@ use Rattle.isa.specs.declared.Instr.the-variants.{Alu, AddImm, AluNone, 
 use Rattle.isa.specs.declared.OverflowEffect.{OverflowEffect}
 use Rattle.isa.specs.declared.OverflowEffect.the-variants.{Keeps, Settles, Unsettles}
 
--- what ALU function f does to V
-abbrev pub effectOf : ℕ → OverflowEffect
-effectOf f = cond (settlesOf f) Settles Unsettles
+-- `settles` says which ALU functions settle V
+module _ (settles : ℕ → Bool) where
+  -- what ALU function f does to V
+  abbrev pub effectBy : ℕ → OverflowEffect
+  effectBy f = cond (settles f) Settles Unsettles
 
--- 01: "V: signed overflow for .. add Imm8 and cmp Imm8", functions add and sub; "Masks follow `and`"; "Other instructions leave flags as
--- they were"; jv, jnv, jlt and jle test V; "LCD transfers go to a lent roll"
+  -- 01: "V: signed overflow for .. add Imm8 and cmp Imm8", functions add and sub; "Masks follow `and`"; "Other instructions leave flags as
+  -- they were"; jv, jnv, jlt and jle test V; "LCD transfers go to a lent roll"
+  abbrev pub factsBy : Instr → Facts
+  factsBy (Alu d a f b) = ((class.Next (effectBy f)), false)
+  factsBy (AddImm d a i) = ((class.Next (effectBy 0b0001)), false)
+  factsBy (AluNone a f b) = ((class.Next (effectBy f)), false)
+  factsBy (CmpImm a i) = ((class.Next (effectBy 0b0010)), false)
+  factsBy (MaskImm a i) = ((class.Next (effectBy 0b0101)), false)
+  factsBy (MaskIn i) = ((class.Next (effectBy 0b0101)), false)
+  factsBy (MovImm d i) = ((class.Next Keeps), false)
+  factsBy (MovIn d) = ((class.Next Keeps), false)
+  factsBy Ack = ((class.Next Keeps), false)
+  factsBy (StoreAddr a i) = ((class.Next Keeps), false)
+  factsBy (StoreReg a b) = ((class.Next Keeps), false)
+  factsBy (Push a) = ((class.Push a), false)
+  factsBy (LoadAddr d i) = ((class.Next Keeps), false)
+  factsBy (LoadReg d a) = ((class.Next Keeps), false)
+  factsBy (Pop d) = (class.Pop, false)
+  factsBy (Swap d a) = ((class.Swap a), false)
+  factsBy (Jmp i) = ((class.Jump i), false)
+  factsBy (JmpReg a) = (class.JumpReg, false)
+  factsBy (Call i) = ((class.Call i), false)
+  factsBy Ret = (class.Return, false)
+  factsBy (Jz i) = ((class.Branch i false), false)
+  factsBy (Jnz i) = ((class.Branch i false), false)
+  factsBy (Jc i) = ((class.Branch i false), false)
+  factsBy (Jnc i) = ((class.Branch i false), false)
+  factsBy (Jv i) = ((class.Branch i true), false)
+  factsBy (Jnv i) = ((class.Branch i true), false)
+  factsBy (Jlz i) = ((class.Branch i false), false)
+  factsBy (Jp i) = ((class.Branch i false), false)
+  factsBy (Jgz i) = ((class.Branch i false), false)
+  factsBy (Jleu i) = ((class.Branch i false), false)
+  factsBy (Jlt i) = ((class.Branch i true), false)
+  factsBy (Jle i) = ((class.Branch i true), false)
+  factsBy (LcdCmd i) = ((class.Next Keeps), true)
+  factsBy (LcdImm i) = ((class.Next Keeps), true)
+  factsBy (LcdReg a) = ((class.Next Keeps), true)
+  factsBy (LcdMem i) = ((class.Next Keeps), true)
+  factsBy (OutReg a) = ((class.Next Keeps), false)
+  factsBy (OutMem i) = ((class.Next Keeps), false)
+  factsBy Hlt = (class.Halt, false)
+  factsBy Nop = ((class.Next Keeps), false)
+
+  abbrev pub classBy : Instr → Class
+  classBy i = factsBy i .0
+
+-- by the function table
+abbrev pub effectOf : ℕ → OverflowEffect
+effectOf f = effectBy settlesOf f
+
 abbrev pub factsOf : Instr → Facts
-factsOf (Alu d a f b) = ((class.Next (effectOf f)), false)
-factsOf (AddImm d a i) = ((class.Next (effectOf 0b0001)), false)
-factsOf (AluNone a f b) = ((class.Next (effectOf f)), false)
-factsOf (CmpImm a i) = ((class.Next (effectOf 0b0010)), false)
-factsOf (MaskImm a i) = ((class.Next (effectOf 0b0101)), false)
-factsOf (MaskIn i) = ((class.Next (effectOf 0b0101)), false)
-factsOf (MovImm d i) = ((class.Next Keeps), false)
-factsOf (MovIn d) = ((class.Next Keeps), false)
-factsOf Ack = ((class.Next Keeps), false)
-factsOf (StoreAddr a i) = ((class.Next Keeps), false)
-factsOf (StoreReg a b) = ((class.Next Keeps), false)
-factsOf (Push a) = ((class.Push a), false)
-factsOf (LoadAddr d i) = ((class.Next Keeps), false)
-factsOf (LoadReg d a) = ((class.Next Keeps), false)
-factsOf (Pop d) = (class.Pop, false)
-factsOf (Swap d a) = ((class.Swap a), false)
-factsOf (Jmp i) = ((class.Jump i), false)
-factsOf (JmpReg a) = (class.JumpReg, false)
-factsOf (Call i) = ((class.Call i), false)
-factsOf Ret = (class.Return, false)
-factsOf (Jz i) = ((class.Branch i false), false)
-factsOf (Jnz i) = ((class.Branch i false), false)
-factsOf (Jc i) = ((class.Branch i false), false)
-factsOf (Jnc i) = ((class.Branch i false), false)
-factsOf (Jv i) = ((class.Branch i true), false)
-factsOf (Jnv i) = ((class.Branch i true), false)
-factsOf (Jlz i) = ((class.Branch i false), false)
-factsOf (Jp i) = ((class.Branch i false), false)
-factsOf (Jgz i) = ((class.Branch i false), false)
-factsOf (Jleu i) = ((class.Branch i false), false)
-factsOf (Jlt i) = ((class.Branch i true), false)
-factsOf (Jle i) = ((class.Branch i true), false)
-factsOf (LcdCmd i) = ((class.Next Keeps), true)
-factsOf (LcdImm i) = ((class.Next Keeps), true)
-factsOf (LcdReg a) = ((class.Next Keeps), true)
-factsOf (LcdMem i) = ((class.Next Keeps), true)
-factsOf (OutReg a) = ((class.Next Keeps), false)
-factsOf (OutMem i) = ((class.Next Keeps), false)
-factsOf Hlt = (class.Halt, false)
-factsOf Nop = ((class.Next Keeps), false)
+factsOf i = factsBy settlesOf i
 
 abbrev pub classOf : Instr → Class
 classOf i = factsOf i .0

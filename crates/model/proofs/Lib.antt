@@ -2,6 +2,7 @@
 pub mod Attempt
 pub mod Counts
 pub mod Kept
+pub mod MovClears
 pub mod NeverFull
 pub mod Promises
 pub mod Runs

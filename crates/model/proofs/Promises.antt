@@ -18,6 +18,7 @@ use Rattle.model.specs.declared.Precheck.the-variants.{Passed, Failed}
 use Rattle.model.specs.declared.Refusal.{Refusal}
 use Rattle.model.specs.declared.Refusal.the-variants.{BadBank, BadPosition, BadBudget}
 use Rattle.model.proofs.Kept.{run-keeps}
+use Rattle.model.proofs.MovClears.{mov-clears}
 use Rattle.model.proofs.Runs.{runs-on, machine-runs-on}
 use Rattle.model.proofs.Traces.{run-steps, run-cycles, trace-fits}
 
@@ -88,6 +89,7 @@ module _ (c : Call) where
         lengths-kept = record { ram = refl; stack = refl; roll = refl };
         runs-on = λ j n. runs-on (c .setting) j n (machineOf c);
         machine-runs-on = λ j n. machine-runs-on (c .setting) j n (machineOf c);
+        mov-clears = mov-clears (c .setting);
       }
 
   ran-promise : refusalOf c ≡ Passed → RunPromise c ran
@@ -102,6 +104,7 @@ module _ (c : Call) where
         lengths-kept = lengths-ran;
         runs-on = λ j n. runs-on (c .setting) j n (machineOf c);
         machine-runs-on = λ j n. machine-runs-on (c .setting) j n (machineOf c);
+        mov-clears = mov-clears (c .setting);
       }
 
   pub run-promise : RunPromise c (callOf c)

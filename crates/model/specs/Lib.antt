@@ -1,3 +1,4 @@
+pub mod AfterMov
 pub mod Plan
 pub mod Run
 pub mod RunPromise

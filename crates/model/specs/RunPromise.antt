@@ -5,6 +5,7 @@ use Prim.Native.Nat.{ℕ, suc, _+_, _≤_}
 use mathlib.Core.Path.{_≡_}
 use lib.ListN.{length}
 use Rattle.slices.specs.Checks.{NoneBroken, FirstViolation}
+use Rattle.model.specs.AfterMov.{MovClears}
 use Rattle.model.specs.Run.{runOf, traceOf, cyclesIn, Call, Outcome, machineOf, callOf, answerNumber, runChecks}
 use Rattle.model.specs.declared.Answer.{Answer}
 use Rattle.model.specs.declared.Answer.the-variants.{Refused, Ran}
@@ -61,3 +62,5 @@ pub record RunPromise (c : Call) (o : Outcome) : Type 0 where
   pub lengths-kept : LengthsKept c o
   pub runs-on : RunsOn c
   pub machine-runs-on : MachineRunsOn c
+  -- 02, [4]: a jump on V right after function 0000 has a defined outcome
+  pub mov-clears : MovClears (c .setting)

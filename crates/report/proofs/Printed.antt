@@ -7,7 +7,7 @@ use Rattle.isa.specs.Decode.{formOf, decodeOf}
 use Rattle.model.specs.Run.{verdictOf, runOf, refusalOf, callOf}
 use Rattle.model.specs.Step.{instrAt, appliedOf, stepOf}
 use Rattle.model.specs.declared.Stop.the-variants.{Halted}
-use Rattle.rules.specs.Grounds.{each, find, callee, badBlank, badRoutine, badEntry, addressChecks, checks, admitOf}
+use Rattle.rules.specs.Grounds.{each, find, callee, badBlank, badRoutine, badEntry, addressChecksBy, checksBy, admitBy}
 use Rattle.rules.specs.Sheet.{word, described, marked, routine, depth, routines, entry, need}
 use Rattle.slices.specs.Checks.{firstBroken}
 use Rattle.report.specs.Desk.{ranOf, deskText}
@@ -17,7 +17,7 @@ use Rattle.report.specs.Printed.{inputA, Printed}
 
 -- what admission and the run tell of listing A
 computed : deskText inputA ≡ admittedLine 2 ++ runLine Halted 8 31 6 255
-unfolding deskText ranOf admitOf checks addressChecks each firstBroken find callee badBlank badRoutine badEntry word described marked routine depth routines entry need instrAt decodeOf formOf settlesOf aluOf sumOf differenceOf verdictOf runOf refusalOf callOf appliedOf stepOf
+unfolding deskText ranOf admitBy checksBy addressChecksBy each firstBroken find callee badBlank badRoutine badEntry word described marked routine depth routines entry need instrAt decodeOf formOf settlesOf aluOf sumOf differenceOf verdictOf runOf refusalOf callOf appliedOf stepOf
 computed = refl
 
 pub printed : Printed

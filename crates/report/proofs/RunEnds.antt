@@ -16,7 +16,7 @@ use Rattle.model.specs.declared.Precheck.the-variants.{Passed}
 use Rattle.model.specs.declared.Stop.{Stop}
 use Rattle.model.specs.declared.Stop.the-variants.{Halted, Spent, Unsettled, Full}
 use Rattle.rules.specs.Demand.{Starts, Holds}
-use Rattle.rules.specs.Grounds.{checks, admitOf}
+use Rattle.rules.specs.Grounds.{checksBy, admitBy, checks, admitOf}
 use Rattle.rules.specs.RunLists.{Snapshot, resume, own, ListedRun, outcomeOf, outcomes}
 use Rattle.rules.specs.Sheet.{Listing}
 use Rattle.rules.proofs.AdmittedRules.{numbered-checks}
@@ -44,7 +44,7 @@ two-left Full u f = f refl
 
 module _ (L : Listing) where
   good-banks : admitOf L ≡ 0 → (eqb (length (L .program .opcodes)) bankSize ≡ true) × (eqb (length (L .program .arguments)) bankSize ≡ true)
-  unfolding admitOf checks
+  unfolding admitBy checksBy
   good-banks e = both _ _ (not-false _ (none-broken (checks L) (numbered-checks L) e .0))
 
   passes : admitOf L ≡ 0 → refusalOf (deskCall (L .program .opcodes) (L .program .arguments) startState) ≡ Passed

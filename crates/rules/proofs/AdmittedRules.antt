@@ -10,12 +10,15 @@ use mathlib.Core.Bool.{Bool, true, false, not, cond, _&&_, _||_}
 use lib.ListN.{length, getD, List·getD-eq-default}
 use lib.Dec.{eqb, ltb}
 use borrow.Author.Tests.{eqb-true, eqb-false, ltb-false, ltb-true, not-false}
+use Rattle.alu.specs.Alu.{settlesOf}
+use Rattle.isa.specs.Facts.{classBy}
 use Rattle.isa.specs.declared.Class.{Class}
 use Rattle.isa.specs.declared.Class.the-variants as class
 use Rattle.model.specs.Run.{testsIn}
+use Rattle.model.specs.Step.{instrAt}
 use Rattle.slices.proofs.Bools.{by-test, neither}
 use Rattle.slices.specs.Checks.{NoneBroken, Check, check, firstBroken}
-use Rattle.rules.specs.Grounds.{each, find, callee, isJumpReg, isPopOrSwap, isReturn, ofCall, badBanks, badSheet, badList, badBlank, badRoutine, badStart, badEntry, badSuccessor, anyBad, rulesAt, addressChecks, checks, admitOf}
+use Rattle.rules.specs.Grounds.{each, find, callee, isJumpReg, isPopOrSwap, isReturn, ofCall, badBanks, badSheet, badList, badBlank, badRoutine, badStart, badEntry, badSuccessor, anyBad, rulesAt, addressChecksBy, checksBy, admitBy, addressChecks, checks, admitOf}
 use Rattle.rules.specs.Sheet.{Listing, word, described, marked, routine, depth, routines, entry, need, classAt}
 use Rattle.rules.specs.Successors.{Successor, successors}
 use Rattle.rules.proofs.CheckLists.{numbered-append, numbered-each, none-append, none-each}
@@ -46,35 +49,41 @@ module _ (L : Listing) where
   numbered-rules a k r d v =
       (omega arith, (omega arith, (omega arith, (omega arith, (omega arith, (omega arith, (omega arith, (omega arith, (omega arith, tt)))))))))
 
+  numbered-address-by : (settles : ℕ → Bool) (a : ℕ) → Numbered (addressChecksBy settles L a)
+  unfolding addressChecksBy
+  numbered-address-by settles a =
+      by-test (described L a) (λ q. rw (q, addressChecksBy) (numbered-rules a (classBy settles (instrAt (L .program) a)) (routine L a) (depth L a) (marked L a))) (λ q. rw (q, addressChecksBy) tt)
+
   pub numbered-address : (a : ℕ) → Numbered (addressChecks L a)
-  unfolding addressChecks
-  numbered-address a =
-      by-test (described L a) (λ q. rw (q, addressChecks) (numbered-rules a (classAt L a) (routine L a) (depth L a) (marked L a))) (λ q. rw (q, addressChecks) tt)
+  numbered-address = numbered-address-by settlesOf
 
   pub one : (n : ℕ) (b : ℕ → Bool) → 0 < n → (k : ℕ) → Numbered (check n k (b k) ∷ [])
   one n b h k = (h, tt)
 
-  abbrev blanks : List Check
+  abbrev pub blanks : List Check
   blanks = each (λ a. check 4 a (badBlank L a) ∷ []) 0 256
 
-  abbrev names : List Check
+  abbrev pub names : List Check
   names = each (λ a. check 5 a (badRoutine L a) ∷ []) 0 256
 
-  abbrev entryWords : List Check
+  abbrev pub entryWords : List Check
   entryWords = each (λ r. check 7 r (badEntry L r) ∷ []) 0 (routines L)
 
-  abbrev addresses : List Check
-  addresses = each (addressChecks L) 0 256
+  abbrev addresses : (ℕ → Bool) → List Check
+  addresses settles = each (addressChecksBy settles L) 0 256
 
-  pub numbered-checks : Numbered (checks L)
-  unfolding checks
-  numbered-checks =
-      let n7 : Numbered (entryWords ++ addresses) =
-      numbered-append entryWords addresses (numbered-each _ (one 7 (badEntry L) (omega arith)) 0 (routines L)) (numbered-each _ numbered-address 0 256) in
-      let n6 : Numbered (check 6 0 (badStart L) ∷ (entryWords ++ addresses)) = (omega arith, n7) in
+  pub numbered-checks-by : (settles : ℕ → Bool) → Numbered (checksBy settles L)
+  unfolding checksBy
+  numbered-checks-by settles =
+      let n7 : Numbered (entryWords ++ addresses settles) =
+      numbered-append entryWords (addresses settles) (numbered-each _ (one 7 (badEntry L) (omega arith)) 0 (routines L)) (numbered-each _ (numbered-address-by settles) 0 256) in
+      let n6 : Numbered (check 6 0 (badStart L) ∷ (entryWords ++ addresses settles)) = (omega arith, n7) in
       let n5 = numbered-append names _ (numbered-each _ (one 5 (badRoutine L) (omega arith)) 0 256) n6 in
       let n4 = numbered-append blanks _ (numbered-each _ (one 4 (badBlank L) (omega arith)) 0 256) n5 in
       (omega arith, (omega arith, (omega arith, n4)))
+
+  pub numbered-checks : Numbered (checks L)
+  numbered-checks = numbered-checks-by settlesOf
 
   -- ---- the rules
 
@@ -191,7 +200,7 @@ module _ (L : Listing) where
       by-test (ltb a 256) (ltb-true a 256) (λ q. absurd-bool (sym (rw (blank-past h a (ltb-false a 256 q)) at e)))
 
   pub admitted : admitOf L ≡ 0 → Admitted
-  unfolding admitOf checks addressChecks routines
+  unfolding admitBy checksBy addressChecksBy routines
   admitted e =
       let n = none-broken (checks L) numbered-checks e in
       let long : length (L .sheet) ≡ 512 = eqb-true _ _ (not-false _ (n .1 .0)) in
@@ -199,7 +208,7 @@ module _ (L : Listing) where
       let l2 = neither (eqb (length (L .list)) 0) _ (l1 .1) in
       let n4 = none-append blanks _ (n .1 .1 .1) in
       let n5 = none-append names _ (n4 .1) in
-      let n7 = none-append entryWords addresses (n5 .1 .1) in
+      let n7 = none-append entryWords (addresses settlesOf) (n5 .1 .1) in
       record {
         sheet-long = long;
         some-routine = some-routines (length (L .list)) (eqb-false _ _ (l1 .0)) (eqb-false _ _ (l2 .0));
@@ -207,5 +216,5 @@ module _ (L : Listing) where
         entries = λ r h. entry-of r (none-each (λ r. check 7 r (badEntry L r) ∷ []) (routines L) 0 (n7 .0) r (omega arith) (omega arith) .0);
         rules = λ a d.
             rules-of a (classAt L a)
-            (rw (d, addressChecks) at (none-each (addressChecks L) 256 0 (n7 .1) a (omega arith) (omega (arith, described-below long a d))));
+            (rw (d, addressChecksBy) at (none-each (addressChecks L) 256 0 (n7 .1) a (omega arith) (omega (arith, described-below long a d))));
       }

@@ -32,3 +32,13 @@ none-each f (suc n) i p k h l =
     let q = none-append (f i) (each f (suc i) n) p in
     by-test (eqb i k) (λ e. rw (← eqb-true i k e) (q .0))
     (λ e. let ne : i ≢ k = eqb-false i k e in none-each f n (suc i) (q .1) k (omega arith) (omega arith))
+
+pub append-none : (xs ys : List Check) → NoneBroken xs → NoneBroken ys → NoneBroken (xs ++ ys)
+append-none [] ys p q = q
+append-none (x ∷ xs) ys p q = (p .0, append-none xs ys (p .1) q)
+
+pub each-none : (f : ℕ → List Check) (n i : ℕ) → ((k : ℕ) → i ≤ k → k < i + n → NoneBroken (f k)) → NoneBroken (each f i n)
+unfolding each
+each-none f zero i h = tt
+each-none f (suc n) i h =
+    append-none (f i) (each f (suc i) n) (h i (omega arith) (omega arith)) (each-none f n (suc i) (λ k l m. h k (omega arith) (omega arith)))

@@ -9,5 +9,6 @@ pub mod ListedCalls
 pub mod Noninterference
 pub mod SafeRuns
 pub mod Scanning
+pub mod SettlesMore
 pub mod Tests
 pub mod ThirdDemand

@@ -6,12 +6,15 @@ use mathlib.Core.List.{List, [], _∷_, _++_}
 use mathlib.Core.Bool.{Bool, true, false, not, cond, _&&_, _||_}
 use lib.ListN.{length}
 use lib.Dec.{eqb, leb, ltb}
+use Rattle.alu.specs.Alu.{settlesOf}
+use Rattle.isa.specs.Facts.{classBy}
 use Rattle.isa.specs.declared.Class.{Class}
 use Rattle.isa.specs.declared.Class.the-variants.{Next, Jump, Branch, JumpReg, Call, Return, Push, Pop, Swap, Halt}
 use Rattle.model.specs.Run.{testsIn}
+use Rattle.model.specs.Step.{instrAt}
 use Rattle.slices.specs.Checks.{Check, check, firstBroken}
 use Rattle.slices.specs.Sizes.{bankSize}
-use Rattle.rules.specs.Sheet.{Listing, word, described, marked, routine, depth, routines, entry, need, classAt}
+use Rattle.rules.specs.Sheet.{Listing, word, described, marked, routine, depth, routines, entry, need}
 use Rattle.rules.specs.Successors.{Successor, successors, goesOn}
 
 -- the checks of n places from i on, lowest first
@@ -152,19 +155,32 @@ rulesAt L a k r d v =
     ∷ check 16 a (anyBad L r (successors k a d v))
     ∷ []
 
--- "Then each described address, lowest first, against 8 to 16"
-unfoldable pub addressChecks : Listing → ℕ → List Check
-addressChecks L a = cond (described L a) (rulesAt L a (classAt L a) (routine L a) (depth L a) (marked L a)) []
+-- `settles` says which ALU functions settle V (02, [4]: function 0000 does)
+module _ (settles : ℕ → Bool) (L : Listing) where
+  -- "Then each described address, lowest first, against 8 to 16"
+  unfoldable pub addressChecksBy : ℕ → List Check
+  addressChecksBy a =
+      cond (described L a) (rulesAt L a (classBy settles (instrAt (L .program) a)) (routine L a) (depth L a) (marked L a)) []
 
--- every rule, in checking order
-unfoldable pub checks : Listing → List Check
-checks L =
-    (check 1 0 (badBanks L) ∷ check 2 0 (badSheet L) ∷ check 3 0 (badList L) ∷ [])
-    ++ (each (λ a. check 4 a (badBlank L a) ∷ []) 0 bankSize
-    ++ (each (λ a. check 5 a (badRoutine L a) ∷ []) 0 bankSize
-    ++ ((check 6 0 (badStart L) ∷ [])
-    ++ (each (λ r. check 7 r (badEntry L r) ∷ []) 0 (routines L)
-    ++ each (addressChecks L) 0 bankSize))))
+  -- every rule, in checking order
+  unfoldable pub checksBy : List Check
+  checksBy =
+      (check 1 0 (badBanks L) ∷ check 2 0 (badSheet L) ∷ check 3 0 (badList L) ∷ [])
+      ++ (each (λ a. check 4 a (badBlank L a) ∷ []) 0 bankSize
+      ++ (each (λ a. check 5 a (badRoutine L a) ∷ []) 0 bankSize
+      ++ ((check 6 0 (badStart L) ∷ [])
+      ++ (each (λ r. check 7 r (badEntry L r) ∷ []) 0 (routines L)
+      ++ each addressChecksBy 0 bankSize))))
 
-unfoldable pub admitOf : Listing → ℕ
-admitOf L = firstBroken (checks L)
+  unfoldable pub admitBy : ℕ
+  admitBy = firstBroken checksBy
+
+-- by the function table
+abbrev pub addressChecks : Listing → ℕ → List Check
+addressChecks L a = addressChecksBy settlesOf L a
+
+abbrev pub checks : Listing → List Check
+checks L = checksBy settlesOf L
+
+abbrev pub admitOf : Listing → ℕ
+admitOf L = admitBy settlesOf L

@@ -1,5 +1,6 @@
 pub mod Demand
 pub mod FirstDemand
+pub mod Former
 pub mod Grounds
 pub mod RunLists
 pub mod Sheet

@@ -1,0 +1,41 @@
+-- 02, [4]: listings around function 0000, with the answers worked out by the rules and by the former rules.
+-- Assumes nothing.
+use Prim.Native.Nat.{ℕ, _+_, _*_}
+use mathlib.Core.Path.{_≡_}
+use mathlib.Core.List.{List, [], _∷_}
+use Rattle.rules.specs.Former.{formerlySettles}
+use Rattle.rules.specs.Grounds.{admitBy, admitOf}
+use Rattle.rules.specs.Sheet.{Listing}
+use Rattle.slices.specs.Lists.{mapped}
+use Rattle.examples.specs.Listings.{w, fromWords, A}
+
+-- an instruction, then `jlt 2` and hlt, the sheet word at 1 being given
+abbrev pub thenJlt : (opcode argument at1 : ℕ) → Listing
+thenJlt op arg at1 = fromWords (w op arg 0x8000 ∷ w 0xD8 0x02 at1 ∷ w 0xF8 0x00 0x8000 ∷ []) (0 ∷ 0 ∷ [])
+
+pub record Anew : Type 0 where
+  pub of : Listing
+  pub now : ℕ
+  pub formerly : ℕ
+
+abbrev pub anew : Listing → (now formerly : ℕ) → Anew
+anew L n f = record { of = L; now = n; formerly = f }
+
+abbrev pub movListings : List Anew
+movListings =
+    -- V marked after `mov R0, R1`, and after function 0000 without a destination: 16 at 0 until now
+    anew (thenJlt 0x01 0x01 0xC000) 0 16
+    ∷ anew (thenJlt 0x20 0x01 0xC000) 0 16
+    -- no mark: 10 at 1, as before
+    ∷ anew (thenJlt 0x01 0x01 0x8000) (10 + 256 * 1) (10 + 256 * 1)
+    -- V marked after `mov R0, 5`, and after `and R0, R0, R1`: 16 at 0, as before
+    ∷ anew (thenJlt 0x30 0x05 0xC000) 16 16
+    ∷ anew (thenJlt 0x00 0x51 0xC000) 16 16
+    -- V marked after `sub R0, R0, R1`, and listing A: admitted, as before
+    ∷ anew (thenJlt 0x00 0x21 0xC000) 0 0
+    ∷ anew A 0 0
+    ∷ []
+
+pub record AnsweredAnew : Type 0 where
+  pub as-now : mapped (λ (x : Anew). admitOf (x .of)) movListings ≡ mapped (λ (x : Anew). x .now) movListings
+  pub as-formerly : mapped (λ (x : Anew). admitBy formerlySettles (x .of)) movListings ≡ mapped (λ (x : Anew). x .formerly) movListings

@@ -1,0 +1,123 @@
+-- Function 0000 leaves V clear, so no run is stopped `unsettled` right behind it, and a jump on V goes by S and Z.
+-- Assumes nothing.
+use Prim.Native.Nat.{ℕ, zero, suc, _+_, _<_}
+use native.Mathlib.Omega.{arith}
+use mathlib.Core.Path.{_≡_, refl, sym, ap, _∙_}
+use mathlib.Core.Bool.{Bool, true, false, cond, _&&_, _||_}
+use mathlib.Core.List.{List}
+use lib.Dec.{eqb, leb, eqb·suc-zero}
+use lib.ListN.{length}
+use Rattle.alu.specs.Alu.{aluOf}
+use Rattle.alu.specs.declared.Overflow.the-variants.{Settled}
+use Rattle.isa.specs.Facts.{writesRoll}
+use Rattle.isa.specs.declared.Instr.{Instr}
+use Rattle.isa.specs.declared.Instr.the-variants.{Jv, Jnv, Jlt, Jle}
+use Rattle.model.specs.AfterMov.{AppliesMov, with-destination, without-destination, JumpsTo, VClear, MovClears}
+use Rattle.model.specs.Plan.{valueOf, differ, planOf}
+use Rattle.model.specs.Run.{Ended, testsOverflow, firstStop, verdictOf, verdictAt, runOf}
+use Rattle.model.specs.State.{nextAddress, withPc}
+use Rattle.model.specs.Step.{Setting, Machine, nextInstr, fetched, topOf, appliedOf, planAt, stepOf}
+use Rattle.model.specs.declared.State.{State}
+use Rattle.model.specs.declared.Stop.{Stop}
+use Rattle.model.specs.declared.Stop.the-variants.{Halted, Spent, Unsettled}
+use Rattle.model.specs.declared.Verdict.the-variants.{Stopped}
+use Rattle.model.proofs.Runs.{by-verdict, none-left, run-stops, run-goes}
+use Rattle.model.proofs.Traces.{run-steps}
+
+-- ---- the plan of function 0000
+
+record Clears (s s′ : State) : Type 0 where
+  pub v : s′ .flags .v ≡ Settled false
+  pub c : s′ .flags .c ≡ false
+  pub halted : s′ .halted ≡ s .halted
+
+plan-clears : (i : Instr) → AppliesMov i → (s : State) (top : ℕ) (ram keys : List ℕ) → Clears s (planOf s top ram keys i .state)
+unfolding aluOf
+plan-clears i with-destination s top ram keys = record { v = refl; c = refl; halted = refl }
+plan-clears i without-destination s top ram keys = record { v = refl; c = refl; halted = refl }
+
+-- ---- stops
+
+-- only the third test stops by `unsettled`
+settled-goes : (halted spent full : Bool) → firstStop halted spent false full ≡ Stopped Unsettled → ⊥
+settled-goes true spent full e = let z : _≡_ {A = ℕ} 0 1 = cc in omega arith
+settled-goes false true full e = let z : _≡_ {A = ℕ} 0 1 = cc in omega arith
+settled-goes false false true e = let z : _≡_ {A = ℕ} 0 1 = cc in omega arith
+settled-goes false false false e = let z : _≡_ {A = ℕ} 0 1 = cc in omega arith
+
+-- with no budget left
+not-unsettled : (halted : Bool) → cond halted Halted Spent ≡ Unsettled → ⊥
+not-unsettled true e = let z : _≡_ {A = ℕ} 0 1 = cc in omega arith
+not-unsettled false e = let z : _≡_ {A = ℕ} 0 1 = cc in omega arith
+
+abbrev stopIn : Ended → Stop
+stopIn e = e .stop
+
+and-no : (b : Bool) → b && false ≡ false
+and-no true = refl
+and-no false = refl
+
+-- ---- jumps
+
+-- S against a V that is clear
+differ-clear : (s : Bool) → differ false s ≡ s
+differ-clear true = refl
+differ-clear false = refl
+
+-- a jump by a test: to its address, or to the next one
+jump-leads : (b : Bool) (s : State) (a : ℕ) → cond b (withPc s a) s .pc ≡ cond b a (s .pc)
+jump-leads true s a = refl
+jump-leads false s a = refl
+
+module _ (x : Setting) (m : Machine) (clear : m .core .state .flags .v ≡ Settled false) where
+  never-stopped : (n : ℕ) → verdictAt x n m ≡ Stopped Unsettled → ⊥
+  unfolding verdictOf
+  never-stopped n e =
+      settled-goes (m .core .state .halted) (eqb n 0) (writesRoll (nextInstr x m) && leb (length (m .core .roll)) (m .core .words))
+      (rw (clear, and-no (testsOverflow (nextInstr x m))) at e)
+
+  step-counted : stepOf x m .core .steps ≡ m .core .steps + 1
+  unfolding stepOf appliedOf
+  step-counted = refl
+
+  stopped-later : (n : ℕ) → runOf x n m .stop ≡ Unsettled → m .core .steps < runOf x n m .machine .core .steps
+  stopped-later zero e = absurd (not-unsettled (m .core .state .halted) (sym (ap stopIn (none-left x m)) ∙ e))
+  stopped-later (suc n) e =
+      by-verdict (verdictAt x (suc n) m)
+      (λ y q. absurd (never-stopped (suc n) (q ∙ ap Stopped (sym (ap stopIn (run-stops x (suc n) m y q)) ∙ e))))
+      (λ q. rw (run-goes x n m q) (omega (arith, step-counted, run-steps x n (stepOf x m))))
+
+  -- the state after a jump to a by the test b
+  abbrev after : ℕ → Bool → State
+  after a b = cond b (withPc (fetched (m .core .state)) a) (fetched (m .core .state))
+
+  -- an instruction that is such a jump, and writes nothing to the roll
+  jumps : (i : Instr) (b : Bool) (a : ℕ) → nextInstr x m ≡ i → writesRoll i ≡ false → planAt x i m .state ≡ after a b
+      → JumpsTo x m (cond b a (nextAddress (m .core .state .pc)))
+  unfolding verdictOf stepOf appliedOf
+  jumps i b a e w p =
+      record {
+        made = λ h n. run-goes x n m (rw (e, w, h, clear, eqb·suc-zero n, and-no (testsOverflow i)));
+        leads = rw (e, p) (jump-leads b (fetched (m .core .state)) a);
+      }
+
+  less : differ (valueOf (m .core .state .flags .v)) (m .core .state .flags .s) ≡ m .core .state .flags .s
+  less = rw clear (differ-clear (m .core .state .flags .s))
+
+  v-clear : m .core .state .flags .c ≡ false → VClear x m (m .core .state)
+  v-clear c =
+      record {
+        v-clear = clear;
+        c-clear = c;
+        not-here = stopped-later;
+        jv = λ i e. jumps (Jv i) false i e refl (rw clear);
+        jnv = λ i e. jumps (Jnv i) true i e refl (rw clear);
+        jlt = λ i e. jumps (Jlt i) (m .core .state .flags .s) i e refl (ap (after i) less);
+        jle = λ i e. jumps (Jle i) (m .core .state .flags .s || m .core .state .flags .z) i e refl (ap (λ (b : Bool). after i (b || m .core .state .flags .z)) less);
+      }
+
+pub mov-clears : (x : Setting) → MovClears x
+unfolding stepOf appliedOf
+mov-clears x m mov =
+    let p = plan-clears (nextInstr x m) mov (fetched (m .core .state)) (topOf m) (m .core .ram) (x .keys) in
+    record { halted-kept = p .halted; clear = v-clear x (stepOf x m) (p .v) (p .c) }
