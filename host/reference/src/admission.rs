@@ -3,18 +3,29 @@
 mod place;
 
 use super::sheet::{routines, words};
-use super::{Instruction, Routine, SheetWord};
+use super::{Function, Instruction, Routine, Settles, SheetWord};
 use cesca_types::{Refusal, BANK, MOST_ROUTINES, SHEET};
 use place::Place;
 
 /// Success if the listing is admitted, else the first ground that refuses it.
 pub fn admit(opcodes: &[u8], arguments: &[u8], sheet: &[u8], list: &[u8]) -> Result<(), Refusal> {
+    admit_by(Function::settles_overflow, opcodes, arguments, sheet, list)
+}
+
+/// The same, if these functions of the ALU settle V: they were others before request 4.
+pub fn admit_by(
+    settles: Settles,
+    opcodes: &[u8],
+    arguments: &[u8],
+    sheet: &[u8],
+    list: &[u8],
+) -> Result<(), Refusal> {
     refuse_whole(1, opcodes.len() != BANK || arguments.len() != BANK)?;
     refuse_whole(2, sheet.len() != SHEET)?;
     let odd = !list.len().is_multiple_of(2);
     refuse_whole(3, odd || list.is_empty() || list.len() > 2 * MOST_ROUTINES)?;
-    let opened = Opened { opcodes, arguments, sheet: words(sheet), routines: routines(list) };
-    opened.check()
+    let (sheet, routines) = (words(sheet), routines(list));
+    Opened { settles, opcodes, arguments, sheet, routines }.check()
 }
 
 /// The ground with this number if there is a place that breaks it.
@@ -29,6 +40,7 @@ fn refuse_whole(number: u8, broken: bool) -> Result<(), Refusal> {
 
 /// A listing whose parts have their lengths.
 struct Opened<'a> {
+    settles: Settles,
     opcodes: &'a [u8],
     arguments: &'a [u8],
     sheet: Vec<SheetWord>,
@@ -78,7 +90,8 @@ impl Opened<'_> {
         let instruction = Instruction::of_word([self.opcodes[index], self.arguments[index]]);
         let word = self.word(at);
         let routine = self.routine(word).expect("ground 5 is past");
-        Place { listing: self, at, word, need: routine.need, facts: instruction.facts() }
+        let facts = instruction.facts_by(self.settles);
+        Place { listing: self, at, word, need: routine.need, facts }
     }
 }
 

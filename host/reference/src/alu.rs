@@ -2,6 +2,9 @@
 
 use cesca_types::{AluAnswer, Overflow};
 
+/// Which of the ALU functions settle V.
+pub type Settles = fn(Function) -> bool;
+
 /// The ALU functions, in the order of their four bits.
 #[derive(Clone, Copy, Debug, PartialEq, Eq)]
 pub enum Function {
@@ -56,7 +59,7 @@ impl Function {
     /// Whether V has a value after the function.
     pub fn settles_overflow(self) -> bool {
         use Function::*;
-        matches!(self, Add | Sub | Addc | Subb)
+        matches!(self, Mov | Add | Sub | Addc | Subb)
     }
 }
 
@@ -64,7 +67,7 @@ impl Function {
 pub fn alu(function: Function, x: u8, y: u8, c: bool) -> AluAnswer {
     let top = x >= 128;
     match function {
-        Function::Mov => bits(y),
+        Function::Mov => answer(y, false, Overflow::Clear),
         Function::Add => sum(x, y, false),
         Function::Sub => difference(x, y, false),
         Function::Addc => sum(x, y, c),

@@ -1,6 +1,6 @@
 //! What a checker needs to know of an instruction.
 
-use super::{Form, Function, Instruction};
+use super::{Form, Function, Instruction, Settles};
 use cesca_types::{Class, Effect, Facts};
 
 impl Form {
@@ -36,11 +36,16 @@ impl Form {
 impl Instruction {
     /// What a checker needs to know of the instruction.
     pub fn facts(self) -> Facts {
+        self.facts_by(Function::settles_overflow)
+    }
+
+    /// The same, if these functions of the ALU settle V.
+    pub fn facts_by(self, settles: Settles) -> Facts {
         Facts {
             cycles: self.form.cycles(),
             class: self.form.class(),
             operand: self.operand(),
-            overflow: self.overflow(),
+            overflow: self.overflow(settles),
             tests: self.form.tests_overflow(),
             roll: self.form.writes_roll(),
         }
@@ -56,9 +61,9 @@ impl Instruction {
     }
 
     /// What it does to V.
-    fn overflow(self) -> Effect {
+    fn overflow(self, settles: Settles) -> Effect {
         match self.form {
-            Form::Alu | Form::AluNone if self.function().settles_overflow() => Effect::Settles,
+            Form::Alu | Form::AluNone if settles(self.function()) => Effect::Settles,
             Form::AddImm | Form::CmpImm => Effect::Settles,
             Form::Alu | Form::AluNone | Form::MaskImm | Form::MaskIn => Effect::Unsettles,
             _ => Effect::Leaves,
@@ -99,7 +104,8 @@ mod tests {
 
     #[test]
     fn effects_on_overflow() {
-        check([0x00, 0x00], 4, Class::Next, 0, Effect::Unsettles); // mov R0, R0
+        check([0x00, 0x00], 4, Class::Next, 0, Effect::Settles); // mov R0, R0
+        check([0x20, 0x01], 3, Class::Next, 0, Effect::Settles); // mov NONE, R1
         check([0x00, 0x10], 4, Class::Next, 0, Effect::Settles); // add
         check([0x20, 0x20], 3, Class::Next, 0, Effect::Settles); // sub NONE
         check([0x20, 0x30], 3, Class::Next, 0, Effect::Settles); // addc NONE
@@ -111,6 +117,20 @@ mod tests {
         check([0x28, 0x01], 3, Class::Next, 0, Effect::Unsettles); // mask Ra
         check([0x2C, 0x01], 5, Class::Next, 0, Effect::Unsettles); // mask IN
         check([0x30, 0x01], 3, Class::Next, 0, Effect::Leaves); // mov Imm8
+        check([0x40, 0x00], 4, Class::Next, 0, Effect::Leaves); // mov IN
+        check([0x60, 0x01], 4, Class::Next, 0, Effect::Leaves); // mov R0, [1]
+        check([0x70, 0x00], 4, Class::Next, 0, Effect::Leaves); // mov R0, [R0]
+    }
+
+    #[test]
+    fn effects_of_functions_that_are_said_to_settle() {
+        let effect = |word| Instruction::decode(word).facts_by(|it| it == Function::And).overflow;
+        assert_eq!(effect([0x00, 0x50]), Effect::Settles); // and
+        assert_eq!(effect([0x20, 0x50]), Effect::Settles); // and NONE
+        assert_eq!(effect([0x00, 0x00]), Effect::Unsettles); // mov R0, R0
+        assert_eq!(effect([0x10, 0x01]), Effect::Settles); // add Imm8
+        assert_eq!(effect([0x28, 0x01]), Effect::Unsettles); // mask Ra
+        assert_eq!(effect([0x30, 0x01]), Effect::Leaves); // mov Imm8
     }
 
     #[test]

@@ -21,8 +21,8 @@ mod sheet;
 mod source;
 mod text;
 
-pub use admission::admit;
-pub use alu::{alu, Function};
+pub use admission::{admit, admit_by};
+pub use alu::{alu, Function, Settles};
 pub use busy::run_busy;
 pub use desk::desk;
 pub use drawing::{draw, hindrance, Hindrance};

@@ -65,15 +65,32 @@ const LATE: &str = "
     6  8000  F8 00  hlt
 ";
 
+/// Register movs, with a destination and without, mark what stands behind them; a call ends the mark.
+const MOVED: &str = "
+    routine 0 at 0 need 1
+    routine 1 at 6 need 0
+
+    0  8000  28 0F  mask R0, 15
+    1  8000  04 00  mov R1, R0
+    2  C000  DC 05  jle 5
+    3  C000  30 01  mov R0, 1
+    4  C000  A8 06  call 6
+    5  8000  F8 00  hlt
+    6  8100  20 01  mov NONE, R1
+    7  C100  C0 06  jv 6
+    8  C100  AC 00  ret
+";
+
 /// Words that no sheet can put right, each in a program that is drawn with its own word.
 #[rustfmt::skip]
-const WRONG: [(&str, u8, [u8; 2], Hindrance); 26] = [
+const WRONG: [(&str, u8, [u8; 2], Hindrance); 29] = [
     (STRAIGHT, 0, [0xA4, 0x00], Hindrance::JumpRegister),    // jmp R0
     (STRAIGHT, 0, [0x80, 0x00], Hindrance::NothingPushed),   // pop R0
     (STRAIGHT, 0, [0x90, 0x00], Hindrance::NothingPushed),   // swap R0, R0
     (STRAIGHT, 0, [0xFC, 0x00], Hindrance::NothingPushed),   // nop
     (STRAIGHT, 1, [0x29, 0x40], Hindrance::Unsettled),       // mask R1, 64
-    (STRAIGHT, 1, [0x04, 0x01], Hindrance::Unsettled),       // mov R1, R1
+    (STRAIGHT, 1, [0x05, 0x61], Hindrance::Unsettled),       // or R1, R1, R1
+    (STRAIGHT, 1, [0x34, 0x40], Hindrance::Unsettled),       // mov R1, 64
     (STRAIGHT, 2, [0xB0, 0x00], Hindrance::TwoDepths),       // jz 0
     (STRAIGHT, 2, [0xB0, 0x06], Hindrance::TwoDepths),       // jz 6
     (STRAIGHT, 6, [0xAC, 0x00], Hindrance::ReturnFromStart), // ret
@@ -94,6 +111,8 @@ const WRONG: [(&str, u8, [u8; 2], Hindrance); 26] = [
     (LATE, 2, [0xC4, 0x03], Hindrance::Unsettled),           // jnv 3
     (LATE, 3, [0xC0, 0x06], Hindrance::Unsettled),           // jv 6
     (LATE, 4, [0xA8, 0x00], Hindrance::Recursion),           // call 0
+    (MOVED, 1, [0x04, 0x50], Hindrance::Unsettled),          // and R1, R0, R0
+    (MOVED, 6, [0x20, 0x51], Hindrance::Unsettled),          // and NONE, R0, R1
 ];
 
 /// A routine a number, each calling the next; routine 0 stands first and the last returns.
@@ -108,7 +127,7 @@ fn chain(routines: u8) -> Listing {
 #[test]
 fn these_are_drawn_as_they_stand() {
     let pushes = Listing::pushes([0xF8, 0x00]);
-    let texts = [STRAIGHT, ENDLESS, NESTED, LATE].map(Listing::read);
+    let texts = [STRAIGHT, ENDLESS, NESTED, LATE, MOVED].map(Listing::read);
     for listing in texts.into_iter().chain([Listing::a(), pushes]) {
         assert_eq!(drawn(&Program::of(&listing)), Some(listing));
     }
@@ -121,6 +140,14 @@ fn one_word_leaves_nothing_to_draw() {
         assert_eq!(drawn(&program), None, "{word:02X?} at {at} of {text}");
         let found = hindrance(&program.opcodes, &program.arguments);
         assert_eq!(found, Some(why), "{word:02X?} at {at} of {text}");
+    }
+}
+
+#[test]
+fn a_register_mov_in_a_comparisons_place_leaves_the_marks() {
+    for word in [[0x04, 0x01], [0x20, 0x01]] {
+        let moved = Listing::read(STRAIGHT).with_word(1, word); // mov R1, R1; mov NONE, R1
+        assert_eq!(drawn(&Program::of(&moved)), Some(moved));
     }
 }
 

@@ -1,5 +1,5 @@
 //! Programs of routines that push and pop in balance, call one another without recursion, jump
-//! within themselves at equal depths and test V after arithmetic; mostly, that is.
+//! within themselves at equal depths and test V after arithmetic and movs; mostly, that is.
 
 use crate::random::Random;
 use cesca::{decode, facts, Class, Effect};
@@ -11,8 +11,12 @@ const BRANCHES: [u8; 8] = [0xB0, 0xB4, 0xB8, 0xBC, 0xC8, 0xCC, 0xD0, 0xD4];
 const TESTS: [u8; 4] = [0xC0, 0xC4, 0xD8, 0xDC];
 
 /// Words that settle V.
-const SETTLING: [[u8; 2]; 6] =
-    [[0x00, 0x11], [0x0A, 0x23], [0x05, 0x30], [0x23, 0x42], [0x1F, 0x05], [0x25, 0x40]];
+#[rustfmt::skip]
+const SETTLING: [[u8; 2]; 8] = [
+    [0x0C, 0x02], [0x21, 0x03], // mov R3, R2; mov NONE, R3
+    [0x00, 0x11], [0x0A, 0x23], [0x05, 0x30], [0x23, 0x42], // add, sub, addc, subb NONE
+    [0x1F, 0x05], [0x25, 0x40], // add Imm8, cmp Imm8
+];
 
 /// The words of such a program; its routines may stand in any order behind the first.
 pub fn words(random: &mut Random) -> Vec<[u8; 2]> {

@@ -8,10 +8,11 @@ use reference::Listing;
 
 /// Words without a target.
 #[rustfmt::skip]
-const PLAIN: [[u8; 2]; 9] = [
+const PLAIN: [[u8; 2]; 10] = [
     [0x5C, 0x00], // push R0
     [0x80, 0x00], // pop R0
     [0x90, 0x00], // swap R0, R0
+    [0x00, 0x00], // mov R0, R0
     [0x00, 0x10], // add R0, R0, R0
     [0x00, 0x50], // and R0, R0, R0
     [0xFC, 0x00], // nop

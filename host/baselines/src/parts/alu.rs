@@ -16,7 +16,7 @@ pub trait Alu {
     /// The difference, a borrow taken in.
     fn sub(&mut self, x: u8, y: u8, c: bool) -> u8;
 
-    /// A value without carry or overflow.
+    /// A value without carry, V being unsettled.
     fn bits(&mut self, value: u8) -> u8;
 }
 
@@ -24,7 +24,7 @@ impl Alu for Flags {
     #[inline(always)]
     fn alu(&mut self, function: u8, x: u8, y: u8) -> u8 {
         match function & 15 {
-            0 => self.bits(y),
+            0 => set(self, y, false, Overflow::Clear),
             1 => self.add(x, y, false),
             2 => self.sub(x, y, false),
             3 => self.add(x, y, self.c),

@@ -15,7 +15,7 @@ fn check(function: Function, x: u8, y: u8, carry: bool, value: u8, c: bool, v: O
 fn every_function_on_one_pair() {
     // Ra 1100_1010, 202 or -54; Rb 1010_0110, 166 or -90; the carry flag is set before.
     let on_pair = |function, value, c, v| check(function, 0xCA, 0xA6, true, value, c, v);
-    on_pair(Function::Mov, 0xA6, false, Unsettled);
+    on_pair(Function::Mov, 0xA6, false, Clear);
     on_pair(Function::Add, 112, true, Set);
     on_pair(Function::Sub, 36, false, Clear);
     on_pair(Function::Addc, 113, true, Set);
@@ -42,6 +42,24 @@ fn a_carry_taken_in_counts_for_overflow() {
     check(Function::Subb, 0, 127, true, 128, true, Clear);
     check(Function::Subb, 0, 128, false, 128, true, Set);
     check(Function::Subb, 0, 128, true, 127, true, Clear);
+}
+
+#[test]
+fn mov_clears_v_whatever_moves() {
+    for carry in [false, true] {
+        check(Function::Mov, 0x80, 0, carry, 0, false, Clear);
+        check(Function::Mov, 0, 127, carry, 127, false, Clear);
+        check(Function::Mov, 127, 128, carry, 128, false, Clear);
+        check(Function::Mov, 255, 255, carry, 255, false, Clear);
+    }
+}
+
+#[test]
+fn v_is_settled_after_the_functions_that_give_it_a_value() {
+    for function in Function::ALL {
+        let settled = alu(function, 0xCA, 0xA6, true).v != Unsettled;
+        assert_eq!(function.settles_overflow(), settled, "{function:?}");
+    }
 }
 
 #[test]

@@ -49,13 +49,46 @@ fn v_after_each_effect() {
     check_admitted(&a_with_words(&[(5, [0x24, 0x01])])); // cmp R0, 1
     check_admitted(&a_with_words(&[(5, [0x00, 0x40])])); // subb R0, R0, R0
     check_admitted(&a_with_words(&[(5, [0x20, 0x30])])); // addc NONE, R0, R0
-    check(&a_with_words(&[(5, [0x00, 0x00])]), 16, 5); // mov R0, R0
+    check_admitted(&a_with_words(&[(5, [0x00, 0x00])])); // mov R0, R0
+    check_admitted(&a_with_words(&[(5, [0x20, 0x01])])); // mov NONE, R1
+    check(&a_with_words(&[(5, [0x00, 0x50])]), 16, 5); // and R0, R0, R0
     check(&a_with_words(&[(5, [0x28, 0x01])]), 16, 5); // mask R0, 1
     check(&a_with_words(&[(5, [0x2C, 0x01])]), 16, 5); // mask IN, 1
     check(&a_with_words(&[(5, [0x20, 0xF0])]), 16, 5); // rol NONE, R0
     check(&a_with_words(&[(5, [0x30, 0x01])]), 16, 5); // mov R0, 1 keeps V, unmarked at 5
     check_admitted(&a_with_sheet(&[(6, 0x8101), (7, 0x8100)]));
     check(&a_with_sheet(&[(6, 0x8101)]), 16, 6);
+}
+
+/// A test of V right behind a register mov.
+const MOVED: &str = "
+    routine 0 at 0 need 0
+
+    0  8000  00 01  mov R0, R1
+    1  C000  D8 03  jlt 3
+    2  8000  F8 00  hlt
+    3  8000  F8 00  hlt
+";
+
+#[test]
+fn v_is_tested_behind_a_register_mov() {
+    let moved = Listing::read(MOVED);
+    for opcode in [0xC0, 0xC4, 0xD8, 0xDC] {
+        let tested = moved.clone().with_word(1, [opcode, 0x03]); // jv, jnv, jlt, jle
+        check_admitted(&tested);
+        check_admitted(&tested.clone().with_word(0, [0x20, 0x01])); // mov NONE, R1
+        check(&tested.with_sheet(1, 0x8000), 10, 1);
+    }
+}
+
+#[test]
+fn no_other_mov_settles_v() {
+    // and R0, R0, R1; mov R0, 5; mov R0, IN; mov R0, [1]; mov R0, [R1]
+    for word in [[0x00, 0x51], [0x30, 0x05], [0x40, 0x00], [0x60, 0x01], [0x71, 0x00]] {
+        let other = Listing::read(MOVED).with_word(0, word);
+        check(&other, 16, 0);
+        check(&other.with_sheet(1, 0x8000), 10, 1);
+    }
 }
 
 #[test]

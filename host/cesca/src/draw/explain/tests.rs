@@ -86,6 +86,8 @@ fn tests_of_v() {
         let reason = |at: u8| format!("{name} at {at} tests V, which may be unsettled there");
         check(&format!("{name} 1\nhlt\n"), &reason(0));
         check(&format!("cmp R0, 1\nmask R0, 1\n{name} 0\nhlt\n"), &reason(2));
+        check(&format!("mov R0, R1\nor R0, R0, R1\n{name} 0\nhlt\n"), &reason(2));
+        check(&format!("mov R0, 1\n{name} 0\nhlt\n"), &reason(1));
         check(&format!("cmp R0, 1\ncall it\n{name} 3\nhlt\nit: cmp R0, 1\nret\n"), &reason(2));
         check(&format!("cmp R0, 1\ncall it\nhlt\nit: {name} 4\nret\n"), &reason(3));
         // Settled on one way alone.
