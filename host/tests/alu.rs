@@ -21,6 +21,14 @@ fn every_function_on_all_operands() {
 }
 
 #[test]
+fn mov_yields_rb_with_c_and_v_clear() {
+    for (x, y, c) in operands() {
+        let wanted = AluAnswer { value: y, z: y == 0, c: false, s: y > 127, v: Overflow::Clear };
+        assert_eq!(alu(0, x, y, c), wanted, "mov {x}, {y} with C {c}");
+    }
+}
+
+#[test]
 fn functions_past_the_last_are_rol() {
     for number in 16..=255 {
         for (x, y, c) in operands().step_by(251) {

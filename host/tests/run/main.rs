@@ -7,6 +7,7 @@ mod jumps;
 mod laws;
 #[path = "../common/memory.rs"]
 mod memory;
+mod moves;
 #[path = "../common/random.rs"]
 mod random;
 mod refusals;
