@@ -9,6 +9,7 @@ mod damage;
 mod drawn;
 mod explained;
 mod filled;
+mod former;
 mod lists;
 #[allow(dead_code)]
 #[path = "../common/memory.rs"]
