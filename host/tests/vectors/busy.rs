@@ -3,31 +3,29 @@
 use crate::blocks::Block;
 use crate::buffers::Buffers;
 use crate::file::Outcome;
-use crate::memory::{Guarded, Memory};
-use crate::runners::{Answer, RUNNERS};
-use crate::values::{bytes, number, numbers, state, text};
-use cesca::{BusyReport, Report, Stop};
+use crate::memory::Guarded;
+use crate::run::{self, refused, report};
+use crate::runners::RUNNERS;
+use crate::values::{bytes, number, numbers, text};
+use cesca::BusyReport;
 
-/// What a case lends.
-const LENT: [&str; 10] =
-    ["op", "arg", "data", "stack", "keys", "roll", "counters", "page", "state", "budget"];
+/// What a case lends beside what every run does.
+pub const RECORDS: [&str; 2] = ["counters", "page"];
 
-/// What it says of the answer.
-const ANSWERS: [&str; 7] = ["stop", "steps", "cycles", "words", "lines", "state-after", "refused"];
-
-/// What it says of the buffers afterwards.
-const LEFT: [&str; 5] =
-    ["data-after", "stack-after", "roll-after", "counters-after", "page-begins"];
-
-/// The stops.
-const STOPS: [Stop; 4] = [Stop::Halted, Stop::Spent, Stop::Unsettled, Stop::Full];
+/// What it says of them afterwards, and of the answer.
+const RECORDED: [&str; 3] = ["counters-after", "page-begins", "lines"];
 
 /// Whether both busy runs answer and leave what the case says.
 pub fn run(block: &Block) -> Outcome {
-    block.expect_keys(&[&LENT[..], &ANSWERS, &LEFT].concat())?;
-    let (budget, start) = (number(block.value("budget")?)?, state(block.value("state")?)?);
+    let answers = [&run::ANSWERS[..], &run::LEFT, &RECORDED].concat();
+    block.expect_keys(&[&run::LENT[..], &RECORDS, &answers, &["refused"]].concat())?;
+    let (budget, start) = run::call(block)?;
     let before = lent(block)?;
-    let (answer, wanted) = (answer(block)?, left(block, &before)?);
+    let wanted = left(block, &before)?;
+    let answer = match refused(block, &answers)? {
+        Some(number) => Err(number),
+        None => Ok(BusyReport { report: report(block)?, lines: number(block.value("lines")?)? }),
+    };
     for (name, runner) in RUNNERS {
         let (found, left) = before.lent(runner, budget, start);
         if found != answer {
@@ -42,31 +40,14 @@ pub fn run(block: &Block) -> Outcome {
 
 /// The buffers that a case lends.
 fn lent(block: &Block) -> Result<Buffers, String> {
-    let guarded = |key| block.value(key).and_then(bytes).map(Guarded::new);
-    let memory = Memory {
-        opcodes: guarded("op")?,
-        arguments: guarded("arg")?,
-        keys: guarded("keys")?,
-        ram: guarded("data")?,
-        stack: guarded("stack")?,
-        roll: Guarded::new(numbers(block.value("roll")?)?),
-    };
     let counters = Guarded::new(numbers(block.value("counters")?)?);
-    Ok(Buffers { memory, counters, page: guarded("page")? })
+    let page = Guarded::new(bytes(block.value("page")?)?);
+    Ok(Buffers { memory: run::lent(block)?, counters, page })
 }
 
 /// What a case wants the buffers to hold that held this before.
 fn left(block: &Block, before: &Buffers) -> Result<Buffers, String> {
-    let mut after = before.clone();
-    if let Some(data) = block.optional("data-after")? {
-        after.memory.ram = Guarded::new(bytes(data)?);
-    }
-    if let Some(stack) = block.optional("stack-after")? {
-        after.memory.stack = Guarded::new(bytes(stack)?);
-    }
-    if let Some(roll) = block.optional("roll-after")? {
-        after.memory.roll = Guarded::new(numbers(roll)?);
-    }
+    let mut after = Buffers { memory: run::left(block, &before.memory)?, ..before.clone() };
     if let Some(counters) = block.optional("counters-after")? {
         after.counters = Guarded::new(numbers(counters)?);
     }
@@ -78,24 +59,51 @@ fn left(block: &Block, before: &Buffers) -> Result<Buffers, String> {
     Ok(after)
 }
 
-/// The answer that a case wants.
-fn answer(block: &Block) -> Result<Answer, String> {
-    if let Some(refused) = block.optional("refused")? {
-        let others = ANSWERS.into_iter().chain(LEFT).filter(|key| *key != "refused");
-        let found = others.map(|key| block.optional(key)).collect::<Result<Vec<_>, _>>()?;
-        return match found.iter().any(Option::is_some) {
-            true => Err("an answer beside refused".to_string()),
-            false => Ok(Err(number(refused)?)),
-        };
+#[cfg(test)]
+mod tests {
+    use crate::file::only;
+
+    /// A busy run of `jmp 0`.
+    const JUMPS: &str = "case: a\ncall: run\nop: A0*256\narg: 00*256\ndata: 11*256\n\
+        stack: 22*256\nkeys: -\nroll: 7*2\nstate: 0 0 0 0 0 255 0 0 0 - 0 0 0\nbudget: 12\n\
+        counters: 5*256\npage: 23*8960\nstop: spent\nsteps: 12\ncycles: 36\nwords: 0\nlines: 1\n\
+        state-after: 0 0 0 0 0 255 0 0 0 - 0 0 0\ncounters-after: 12,0*255\n\
+        page-begins: 00      12 jmp 0                  \\n";
+
+    #[test]
+    fn busy_runs_that_hold() {
+        assert_eq!(only("a.txt", JUMPS), Ok(()));
+        let (lent, _) = JUMPS.split_once("\nstop").expect("a stop");
+        let short = lent.replace("8960", "8959");
+        assert_eq!(only("a.txt", &format!("{short}\nrefused: 17")), Ok(()));
     }
-    let name = block.value("stop")?;
-    let stop = STOPS.into_iter().find(|stop| stop.to_string() == name);
-    let report = Report {
-        stop: stop.ok_or_else(|| format!("{name:?} is no stop"))?,
-        steps: number(block.value("steps")?)?,
-        cycles: number(block.value("cycles")?)?,
-        words: number(block.value("words")?)?,
-        state: state(block.value("state-after")?)?,
-    };
-    Ok(Ok(BusyReport { report, lines: number(block.value("lines")?)? }))
+
+    #[test]
+    fn busy_runs_that_do_not_hold() {
+        let wrong = |from: &str, to: &str| {
+            let case = JUMPS.replacen(from, to, 1);
+            assert_ne!(case, JUMPS, "{from:?}");
+            assert!(only("a.txt", &case).is_err(), "{to}");
+        };
+        wrong("stop: spent", "stop: full");
+        wrong("stop: spent", "stop: later");
+        wrong("\nsteps: 12", "\nsteps: 11");
+        wrong("cycles: 36", "cycles: 35");
+        wrong("words: 0", "words: 1");
+        wrong("lines: 1", "lines: 2");
+        wrong("state-after: 0", "state-after: 1");
+        wrong("after: 12,0*255", "after: 12,0*254,5");
+        wrong("\ncounters-after: 12,0*255", "");
+        wrong("\nlines: 1", "\nlines: 1\nroll-after: 7,8");
+        wrong("\nlines: 1", "\nlines: 1\ndata-after: 12*256");
+        wrong("\nlines: 1", "\nlines: 1\nstack-after: 12*256");
+        wrong("\nlines: 1", "\nlines: 1\nrefused: 17");
+        wrong("\nlines: 1", "");
+        wrong("page: 23*8960", "page: 23*8959");
+        wrong("\npage: 23*8960", "");
+        wrong("\ncounters: 5*256", "");
+        wrong("jmp 0                  \\n", "jmp 0                 #\\n");
+        wrong("page-begins: 00      12 jmp 0                  \\n", "page-begins: ");
+        wrong("page-begins: 00      12 jmp 0                  \\n", "why: no");
+    }
 }

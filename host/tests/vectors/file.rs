@@ -1,7 +1,7 @@
 //! A file of cases, and which check each of them goes to.
 
 use crate::blocks::{blocks, Block};
-use crate::{busy, draw, source};
+use crate::{admit, busy, draw, run, source};
 
 /// Whether a case holds, or what is wrong.
 pub type Outcome = Result<(), String>;
@@ -13,11 +13,12 @@ type OfBlock = fn(&Block) -> Outcome;
 type OfLine = fn(&str) -> Outcome;
 
 /// The calls, each with its check.
-const CALLS: [(&str, OfBlock); 4] = [
+const CALLS: [(&str, OfBlock); 5] = [
     ("assemble", source::assemble),
     ("print", source::print),
     ("draw", draw::draw),
-    ("run", busy::run),
+    ("run", plain_or_busy),
+    ("admit", admit::admit),
 ];
 
 /// The files in which each line is a case, by the beginning of their names, with its check.
@@ -52,6 +53,15 @@ fn outcome(block: &Block) -> Outcome {
     check(block).map_err(named(case))
 }
 
+/// The outcome of a run: a busy one, if counters or a page are lent.
+fn plain_or_busy(block: &Block) -> Outcome {
+    let records = busy::RECORDS.map(|key| block.optional(key));
+    match records.iter().all(|record| *record == Ok(None)) {
+        true => run::run(block),
+        false => busy::run(block),
+    }
+}
+
 /// The lines that aren't empty and no comments.
 fn lines(text: &str) -> impl Iterator<Item = &str> {
     text.lines().filter(|line| !line.is_empty() && !line.starts_with('#'))
@@ -62,15 +72,21 @@ fn named(name: &str) -> impl Fn(String) -> String + '_ {
     move |message| format!("{name}: {message}")
 }
 
+/// The outcome of the one case of a file.
+#[cfg(test)]
+pub fn only(name: &str, text: &str) -> Outcome {
+    let outcomes = outcomes(name, text);
+    let [outcome] = &outcomes[..] else { panic!("{outcomes:?}") };
+    outcome.clone()
+}
+
 #[cfg(test)]
 mod tests {
     use super::*;
 
-    /// The one case of a file, with this in place of its last line.
+    /// The one case of a file, with this as its last line.
     fn outcome(name: &str, first: &str, last: &str) -> Outcome {
-        let outcomes = outcomes(name, &format!("# cases\n{first}\n{last}\n"));
-        let [outcome] = &outcomes[..] else { panic!("{outcomes:?}") };
-        outcome.clone()
+        only(name, &format!("# cases\n{first}\n{last}\n"))
     }
 
     #[test]
@@ -88,51 +104,6 @@ mod tests {
         assert_eq!(outcome("a.txt", hlt, "list-after: 00*128"), Ok(()));
         let short = "case: a\ncall: draw\nop: F8*256\narg: 00*256\nsheet: 11*511\nlist: -";
         assert_eq!(outcome("a.txt", short, "refused: 2"), Ok(()));
-    }
-
-    /// A busy run of `jmp 0`, but for its last line.
-    const JUMPS: &str = "case: a\ncall: run\nop: A0*256\narg: 00*256\ndata: 11*256\n\
-        stack: 22*256\nkeys: -\nroll: 7*2\nstate: 0 0 0 0 0 255 0 0 0 - 0 0 0\nbudget: 12\n\
-        counters: 5*256\npage: 23*8960\nstop: spent\nsteps: 12\ncycles: 36\nwords: 0\nlines: 1\n\
-        state-after: 0 0 0 0 0 255 0 0 0 - 0 0 0\ncounters-after: 12,0*255";
-
-    /// That line.
-    const PAGE: &str = "page-begins: 00      12 jmp 0                  \\n";
-
-    #[test]
-    fn busy_runs_that_hold() {
-        assert_eq!(outcome("a.txt", JUMPS, PAGE), Ok(()));
-        let (lent, _) = JUMPS.split_once("\nstop").expect("a stop");
-        let short = lent.replace("8960", "8959");
-        assert_eq!(outcome("a.txt", &short, "refused: 17"), Ok(()));
-    }
-
-    #[test]
-    fn busy_runs_that_do_not_hold() {
-        let wrong = |from: &str, to: &str| {
-            let case = JUMPS.replacen(from, to, 1);
-            assert_ne!(case, JUMPS, "{from:?}");
-            outcome("a.txt", &case, PAGE).is_err()
-        };
-        assert!(wrong("stop: spent", "stop: full"));
-        assert!(wrong("stop: spent", "stop: later"));
-        assert!(wrong("\nsteps: 12", "\nsteps: 11"));
-        assert!(wrong("cycles: 36", "cycles: 35"));
-        assert!(wrong("words: 0", "words: 1"));
-        assert!(wrong("lines: 1", "lines: 2"));
-        assert!(wrong("state-after: 0", "state-after: 1"));
-        assert!(wrong("after: 12,0*255", "after: 12,0*254,5"));
-        assert!(wrong("\ncounters-after: 12,0*255", ""));
-        assert!(wrong("\nlines: 1", "\nlines: 1\nroll-after: 7,8"));
-        assert!(wrong("\nlines: 1", "\nlines: 1\ndata-after: 12*256"));
-        assert!(wrong("\nlines: 1", "\nlines: 1\nstack-after: 12*256"));
-        assert!(wrong("\nlines: 1", "\nlines: 1\nrefused: 17"));
-        assert!(wrong("page: 23*8960", "page: 23*8959"));
-        for page in
-            ["page-begins: 00      12 jmp 0                 #\\n", "page-begins: ", "why: no"]
-        {
-            assert!(outcome("a.txt", JUMPS, page).is_err(), "{page}");
-        }
     }
 
     #[test]

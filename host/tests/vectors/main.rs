@@ -1,6 +1,7 @@
 //! Cases worked out from the papers by somebody else, a folder for each request of 02: the library
 //! and the reference answer what they say, and leave what they say in all that they were lent.
 
+mod admit;
 #[allow(dead_code)]
 #[path = "../source/banks.rs"]
 mod banks;
@@ -16,6 +17,7 @@ mod file;
 #[allow(dead_code)]
 #[path = "../common/memory.rs"]
 mod memory;
+mod run;
 #[path = "../busy/runners.rs"]
 mod runners;
 #[allow(dead_code)]
@@ -32,7 +34,7 @@ mod values;
 use stored::{names, path, text};
 
 /// The folders that must be there; any other that lies beside them is run too.
-const FOLDERS: [&str; 3] = ["01-text", "02-drawn", "03-busy"];
+const FOLDERS: [&str; 4] = ["01-text", "02-drawn", "03-busy", "04-mov-v"];
 
 /// The folders of cases that lie here.
 fn folders() -> Vec<String> {
