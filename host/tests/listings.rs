@@ -3,11 +3,14 @@
 
 #[path = "common/described.rs"]
 mod described;
+#[path = "common/formerly.rs"]
+mod formerly;
 #[path = "common/stored.rs"]
 mod stored;
 
 use cesca::{admit, assemble, draw, Assembled, Drawing, Refusal, BANK};
 use described::{described, file, Described};
+use formerly::admit_formerly;
 use reference::Listing;
 use stored::{names, path, read, text};
 
@@ -27,6 +30,12 @@ fn admitted() -> impl Iterator<Item = Described> {
 /// The files that are said to be refused.
 fn refused() -> impl Iterator<Item = Described> {
     described().into_iter().filter(|file| answer(&file.printed).is_err())
+}
+
+/// The listing that is described under a name.
+fn listing(name: &str) -> Listing {
+    let mut files = described().into_iter();
+    files.find(|file| file.name == name).expect(name).listing
 }
 
 /// What is drawn from a listing's banks.
@@ -113,8 +122,24 @@ fn the_needs_of_what_is_admitted_are_the_least() {
         drawn += 1;
         more_marks += u32::from(sheet[..] != listing.sheet);
     }
-    assert_eq!(drawn, 8);
+    assert_eq!(drawn, 11);
     assert!(more_marks > 1, "V is marked at more addresses in {more_marks} listings");
+}
+
+#[test]
+fn absolute_has_the_sheet_that_is_drawn() {
+    let absolute = listing("absolute");
+    assert_eq!(drawing(&absolute).expect("a drawing").sheet[..], absolute.sheet);
+}
+
+#[test]
+fn exchanged_was_refused_before_request_4_and_is_admitted_without_its_marks() {
+    let exchanged = listing("exchanged");
+    assert_eq!(admit_formerly(&exchanged), Err(Refusal::of_listing(16, 2)));
+    let unmarked = (3..=6).fold(exchanged, |listing, at| listing.with_sheet(at, 0x8000));
+    assert_eq!(admit_formerly(&unmarked), Ok(()));
+    let Listing { opcodes, arguments, sheet, list } = &unmarked;
+    assert_eq!(admit(opcodes, arguments, sheet, list), Ok(()));
 }
 
 #[test]

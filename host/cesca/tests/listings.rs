@@ -40,5 +40,5 @@ fn each_stored_file_has_a_text() {
     let mut stored: Vec<String> = names.filter(|name| name.ends_with(".bin")).collect();
     stored.sort();
     assert_eq!(named, stored);
-    assert!(stored.len() >= 15, "{stored:?}");
+    assert!(stored.len() >= 18, "{stored:?}");
 }

@@ -4,26 +4,16 @@
 use crate::answer::answer;
 use crate::damage::Damage;
 use crate::filled::admitted;
+use crate::formerly::admit_formerly;
 use crate::random::each_case;
 use cesca::Refusal;
-use reference::{admit_by, Form, Function, Instruction, Listing};
+use reference::{Form, Function, Instruction, Listing};
 
 /// The admitted listings drawn, each damaged in every way too.
 const CASES: u64 = 5_000;
 
 /// How often each thing must be met.
 const ENOUGH: u32 = 500;
-
-/// Whether V was settled after a function of the ALU.
-fn settled(function: Function) -> bool {
-    function != Function::Mov && function.settles_overflow()
-}
-
-/// The former answer on a listing.
-fn former(listing: &Listing) -> Result<(), Refusal> {
-    let Listing { opcodes, arguments, sheet, list } = listing;
-    admit_by(settled, opcodes, arguments, sheet, list)
-}
 
 /// Whether function 0000 stands at an address, with a destination or without.
 fn moves(listing: &Listing, at: u8) -> bool {
@@ -49,7 +39,7 @@ struct Met {
 impl Met {
     /// Counts a listing, once its two answers are found to be in order.
     fn add(&mut self, listing: &Listing) {
-        let (then, now) = (former(listing), answer(listing));
+        let (then, now) = (admit_formerly(listing), answer(listing));
         match (&then, &now) {
             (Ok(()), _) => {
                 assert_eq!(now, Ok(()), "{listing:?}");

@@ -10,6 +10,8 @@ mod drawn;
 mod explained;
 mod filled;
 mod former;
+#[path = "../common/formerly.rs"]
+mod formerly;
 mod lists;
 #[allow(dead_code)]
 #[path = "../common/memory.rs"]
