@@ -14,9 +14,11 @@ const BYTES: [u8; 5] = [0, 1, 127, 128, 255];
 /// The three states of V.
 const STATES: [Overflow; 3] = [Overflow::Clear, Overflow::Set, Overflow::Unsettled];
 
-/// The jumps that test V, and whether each is taken after a byte was moved: with V clear they
-/// compare the byte with 0.
-const TESTERS: [(u8, fn(i8) -> bool); 4] = [
+/// Whether a jump is taken after a byte was moved.
+type Taken = fn(i8) -> bool;
+
+/// The jumps that test V: with V clear they compare the moved byte with 0.
+const TESTERS: [(u8, Taken); 4] = [
     (0xC0, |_| false),        // jv
     (0xC4, |_| true),         // jnv
     (0xD8, |byte| byte < 0),  // jlt
