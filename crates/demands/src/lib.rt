@@ -12,7 +12,7 @@ use run_numbers::TimeNumbers;
 use stepping::StepResult;
 ghost use Rattle.examples.specs.Listings.{Answered};
 ghost use Rattle.examples.specs.Marked.{Marked};
-ghost use Rattle.examples.specs.MovListings.{AnsweredAnew};
+ghost use Rattle.examples.specs.MovListings.{AnsweredByBoth};
 ghost use Rattle.model.specs.Run.{call, stepsBy};
 ghost use Rattle.model.specs.State.{withRegisters};
 ghost use Rattle.model.specs.Step.{setting, machineAt};
@@ -119,5 +119,5 @@ pub fn facts(fields: Fields) -> FactNumbers
 pub fn examples(b: u8)
     ensures marked { λ _. ⌜ Marked b ⌝ }
     ensures answered { λ _. ⌜ Answered ⌝ }
-    ensures anew { λ _. ⌜ AnsweredAnew ⌝ }
+    ensures compared { λ _. ⌜ AnsweredByBoth ⌝ }
 {}

@@ -11,7 +11,7 @@ use borrow.Author.Tests.{eqb-true, leb-false, not-false, eq-eqb, ne-eqb, le-ltb,
 use Rattle.isa.specs.declared.Class.{Class}
 use Rattle.isa.specs.declared.Class.the-variants as class
 use Rattle.model.specs.Run.{testsIn}
-use Rattle.slices.proofs.Bools.{by-test}
+use Rattle.slices.proofs.Bools.{by-test, and-off, or-off}
 use Rattle.slices.proofs.Checks.{none-broken, all-hold}
 use Rattle.slices.specs.Checks.{NoneBroken, check}
 use Rattle.rules.specs.Grounds.{each, callee, isPopOrSwap, isReturn, ofCall, badBanks, badList, badBlank, badRoutine, badStart, badEntry, badSuccessor, anyBad, rulesAt, addressChecksBy, checksBy, admitBy, addressChecks, checks, admitOf}
@@ -19,7 +19,7 @@ use Rattle.rules.specs.Sheet.{Listing, word, described, marked, routine, depth,
 use Rattle.rules.specs.Successors.{Successor, successors, goesOn}
 use Rattle.rules.proofs.AdmittedRules.{described-below, numbered-checks, Fits, FitsAll, Rules, EntryFits, Admitted, admitted}
 use Rattle.rules.proofs.CheckLists.{none-append, none-each, append-none, each-none}
-use Rattle.rules.proofs.Tests.{absurd-bool, and-false, and-off, or-off}
+use Rattle.rules.proofs.Tests.{absurd-bool, and-false}
 
 call-off : (f : ℕ → Bool) (k : Class) → ((t : ℕ) → k ≡ class.Call t → f t ≡ false) → ofCall f k ≡ false
 call-off f (class.Next e) h = refl

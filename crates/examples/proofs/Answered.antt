@@ -8,12 +8,12 @@ use Rattle.rules.specs.Grounds.{each, find, callee, badBlank, badRoutine, badEn
 use Rattle.slices.specs.Checks.{firstBroken}
 use Rattle.rules.specs.Sheet.{word, described, marked, routine, depth, routines, entry, need}
 use Rattle.examples.specs.Listings.{Answered}
-use Rattle.examples.specs.MovListings.{AnsweredAnew}
+use Rattle.examples.specs.MovListings.{AnsweredByBoth}
 
 pub answered : Answered
 unfolding admitBy checksBy addressChecksBy each firstBroken find callee badBlank badRoutine badEntry word described marked routine depth routines entry need instrAt decodeOf formOf settlesOf aluOf sumOf differenceOf
 answered = record { numbers = refl; as-stated = refl }
 
-pub answered-anew : AnsweredAnew
+pub answered-by-both : AnsweredByBoth
 unfolding admitBy checksBy addressChecksBy each firstBroken find callee badBlank badRoutine badEntry word described marked routine depth routines entry need instrAt decodeOf formOf settlesOf aluOf sumOf differenceOf
-answered-anew = record { as-now = refl; as-formerly = refl }
+answered-by-both = record { as-now = refl; as-formerly = refl }

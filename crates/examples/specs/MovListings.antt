@@ -13,29 +13,30 @@ use Rattle.examples.specs.Listings.{w, fromWords, A}
 abbrev pub thenJlt : (opcode argument at1 : ℕ) → Listing
 thenJlt op arg at1 = fromWords (w op arg 0x8000 ∷ w 0xD8 0x02 at1 ∷ w 0xF8 0x00 0x8000 ∷ []) (0 ∷ 0 ∷ [])
 
-pub record Anew : Type 0 where
+-- a listing with the answer by the rules, and that by the former rules
+pub record Compared : Type 0 where
   pub of : Listing
   pub now : ℕ
   pub formerly : ℕ
 
-abbrev pub anew : Listing → (now formerly : ℕ) → Anew
-anew L n f = record { of = L; now = n; formerly = f }
+abbrev pub compared : Listing → (now formerly : ℕ) → Compared
+compared L n f = record { of = L; now = n; formerly = f }
 
-abbrev pub movListings : List Anew
+abbrev pub movListings : List Compared
 movListings =
-    -- V marked after `mov R0, R1`, and after function 0000 without a destination: 16 at 0 until now
-    anew (thenJlt 0x01 0x01 0xC000) 0 16
-    ∷ anew (thenJlt 0x20 0x01 0xC000) 0 16
-    -- no mark: 10 at 1, as before
-    ∷ anew (thenJlt 0x01 0x01 0x8000) (10 + 256 * 1) (10 + 256 * 1)
-    -- V marked after `mov R0, 5`, and after `and R0, R0, R1`: 16 at 0, as before
-    ∷ anew (thenJlt 0x30 0x05 0xC000) 16 16
-    ∷ anew (thenJlt 0x00 0x51 0xC000) 16 16
-    -- V marked after `sub R0, R0, R1`, and listing A: admitted, as before
-    ∷ anew (thenJlt 0x00 0x21 0xC000) 0 0
-    ∷ anew A 0 0
+    -- V marked after `mov R0, R1`, and after function 0000 without a destination: 16 at 0 by the former rules
+    compared (thenJlt 0x01 0x01 0xC000) 0 16
+    ∷ compared (thenJlt 0x20 0x01 0xC000) 0 16
+    -- no mark: 10 at 1 by both
+    ∷ compared (thenJlt 0x01 0x01 0x8000) (10 + 256 * 1) (10 + 256 * 1)
+    -- V marked after `mov R0, 5`, and after `and R0, R0, R1`: 16 at 0 by both
+    ∷ compared (thenJlt 0x30 0x05 0xC000) 16 16
+    ∷ compared (thenJlt 0x00 0x51 0xC000) 16 16
+    -- V marked after `sub R0, R0, R1`, and listing A: admitted by both
+    ∷ compared (thenJlt 0x00 0x21 0xC000) 0 0
+    ∷ compared A 0 0
     ∷ []
 
-pub record AnsweredAnew : Type 0 where
-  pub as-now : mapped (λ (x : Anew). admitOf (x .of)) movListings ≡ mapped (λ (x : Anew). x .now) movListings
-  pub as-formerly : mapped (λ (x : Anew). admitBy formerlySettles (x .of)) movListings ≡ mapped (λ (x : Anew). x .formerly) movListings
+pub record AnsweredByBoth : Type 0 where
+  pub as-now : mapped (λ (x : Compared). admitOf (x .of)) movListings ≡ mapped (λ (x : Compared). x .now) movListings
+  pub as-formerly : mapped (λ (x : Compared). admitBy formerlySettles (x .of)) movListings ≡ mapped (λ (x : Compared). x .formerly) movListings

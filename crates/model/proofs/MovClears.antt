@@ -7,6 +7,7 @@ use mathlib.Core.Bool.{Bool, true, false, cond, _&&_, _||_}
 use mathlib.Core.List.{List}
 use lib.Dec.{eqb, leb, eqb·suc-zero}
 use lib.ListN.{length}
+use Rattle.slices.proofs.Bools.{and-off}
 use Rattle.alu.specs.Alu.{aluOf}
 use Rattle.alu.specs.declared.Overflow.the-variants.{Settled}
 use Rattle.isa.specs.Facts.{writesRoll}
@@ -53,10 +54,6 @@ not-unsettled false e = let z : _≡_ {A = ℕ} 0 1 = cc in omega arith
 abbrev stopIn : Ended → Stop
 stopIn e = e .stop
 
-and-no : (b : Bool) → b && false ≡ false
-and-no true = refl
-and-no false = refl
-
 -- ---- jumps
 
 -- S against a V that is clear
@@ -74,7 +71,7 @@ module _ (x : Setting) (m : Machine) (clear : m .core .state .flags .v ≡ Settl
   unfolding verdictOf
   never-stopped n e =
       settled-goes (m .core .state .halted) (eqb n 0) (writesRoll (nextInstr x m) && leb (length (m .core .roll)) (m .core .words))
-      (rw (clear, and-no (testsOverflow (nextInstr x m))) at e)
+      (rw (clear, and-off (testsOverflow (nextInstr x m)) false (λ q. refl)) at e)
 
   step-counted : stepOf x m .core .steps ≡ m .core .steps + 1
   unfolding stepOf appliedOf
@@ -97,18 +94,17 @@ module _ (x : Setting) (m : Machine) (clear : m .core .state .flags .v ≡ Settl
   unfolding verdictOf stepOf appliedOf
   jumps i b a e w p =
       record {
-        made = λ h n. run-goes x n m (rw (e, w, h, clear, eqb·suc-zero n, and-no (testsOverflow i)));
+        made = λ h n. run-goes x n m (rw (e, w, h, clear, eqb·suc-zero n, and-off (testsOverflow i) false (λ q. refl)));
         leads = rw (e, p) (jump-leads b (fetched (m .core .state)) a);
       }
 
   less : differ (valueOf (m .core .state .flags .v)) (m .core .state .flags .s) ≡ m .core .state .flags .s
   less = rw clear (differ-clear (m .core .state .flags .s))
 
-  v-clear : m .core .state .flags .c ≡ false → VClear x m (m .core .state)
-  v-clear c =
+  v-clear : VClear x m (m .core .state)
+  v-clear =
       record {
-        v-clear = clear;
-        c-clear = c;
+        is-clear = clear;
         not-here = stopped-later;
         jv = λ i e. jumps (Jv i) false i e refl (rw clear);
         jnv = λ i e. jumps (Jnv i) true i e refl (rw clear);
@@ -120,4 +116,4 @@ pub mov-clears : (x : Setting) → MovClears x
 unfolding stepOf appliedOf
 mov-clears x m mov =
     let p = plan-clears (nextInstr x m) mov (fetched (m .core .state)) (topOf m) (m .core .ram) (x .keys) in
-    record { halted-kept = p .halted; clear = v-clear x (stepOf x m) (p .v) (p .c) }
+    record { halted-kept = p .halted; c-clear = p .c; v-clear = λ x′ m′ e. v-clear x′ m′ (ap (λ (s : State). s .flags .v) e ∙ p .v) }

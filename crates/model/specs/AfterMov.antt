@@ -22,10 +22,9 @@ pub record JumpsTo (x : Setting) (m : Machine) (a : ℕ) : Type 0 where
   pub made : m .core .state .halted ≡ false → (n : ℕ) → runOf x (suc n) m ≡ runOf x n (stepOf x m)
   pub leads : stepOf x m .core .state .pc ≡ a
 
--- m is the machine after function 0000, s its state
+-- a machine m with V clear, s being its state
 pub record VClear (x : Setting) (m : Machine) (s : State) : Type 0 where
-  pub v-clear : s .flags .v ≡ Settled false
-  pub c-clear : s .flags .c ≡ false
+  pub is-clear : s .flags .v ≡ Settled false
   -- a run that ends `unsettled` has made a step before
   pub not-here : (n : ℕ) → runOf x n m .stop ≡ Unsettled → m .core .steps < runOf x n m .machine .core .steps
   -- jv isn't taken and jnv is; jlt goes by S, and jle by S or Z
@@ -34,10 +33,12 @@ pub record VClear (x : Setting) (m : Machine) (s : State) : Type 0 where
   pub jlt : (i : ℕ) → nextInstr x m ≡ Jlt i → JumpsTo x m (cond (s .flags .s) i (nextAddress (s .pc)))
   pub jle : (i : ℕ) → nextInstr x m ≡ Jle i → JumpsTo x m (cond (s .flags .s || s .flags .z) i (nextAddress (s .pc)))
 
--- whatever the machine m before it: its state, banks, keys and roll
+-- after function 0000, executed at any machine m whatever
 pub record AfterMov (x : Setting) (m : Machine) : Type 0 where
   pub halted-kept : stepOf x m .core .state .halted ≡ m .core .state .halted
-  pub clear : VClear x (stepOf x m) (stepOf x m .core .state)
+  pub c-clear : stepOf x m .core .state .flags .c ≡ false
+  -- where the state that it leaves is run on: in this run, or in another one with banks, keys and roll of its own
+  pub v-clear : (x′ : Setting) (m′ : Machine) → m′ .core .state ≡ stepOf x m .core .state → VClear x′ m′ (m′ .core .state)
 
 abbrev pub MovClears : Setting → Type 0
 MovClears x = (m : Machine) → AppliesMov (nextInstr x m) → AfterMov x m

@@ -1,15 +1,18 @@
 -- Rules under a table that settles more admit whatever rules under one that settles less admit: only the mark that may stand behind an
 -- instruction hangs on the table, and a mark that may stand is never against a rule.
 -- Assumes nothing.
-use Prim.Native.Nat.{ℕ}
+use Prim.Native.Nat.{ℕ, _≤_, _<_}
+use native.Mathlib.Omega.{arith}
 use mathlib.Core.Path.{_≡_, refl, sym, ap, _∙_}
-use mathlib.Core.Bool.{Bool, true, false, not, _&&_}
-use lib.Dec.{eqb}
-use borrow.Author.Tests.{ne-eqb, not-false}
-use Rattle.slices.proofs.Bools.{by-test, both, neither}
+use mathlib.Core.Bool.{Bool, true, false, not, _&&_, _||_, Bool·beq}
+use lib.Dec.{eqb, leb, ltb}
+use lib.ListN.{List·getD-eq-default}
+use borrow.Author.Tests.{ne-eqb, ltb-true, ltb-false, lt-leb, not-false}
+use Rattle.slices.proofs.Bools.{by-test, neither, and-off, or-off}
+use Rattle.slices.proofs.Below.{at}
 use Rattle.slices.proofs.Checks.{none-broken, all-hold}
 use Rattle.slices.specs.Checks.{NoneBroken}
-use Rattle.alu.specs.Alu.{settlesOf}
+use Rattle.alu.specs.Alu.{functions, sumOf, differenceOf, aluOf, settlesOf}
 use Rattle.isa.specs.Facts.{effectBy, classBy}
 use Rattle.isa.specs.declared.Class.{Class}
 use Rattle.isa.specs.declared.Class.the-variants.{Next}
@@ -24,7 +27,7 @@ use Rattle.rules.specs.Sheet.{Listing, described, marked, routine, depth
 use Rattle.rules.specs.Successors.{successor, markAfter}
 use Rattle.rules.proofs.AdmittedRules.{blanks, names, entryWords, numbered-checks-by}
 use Rattle.rules.proofs.CheckLists.{none-append, none-each, append-none, each-none}
-use Rattle.rules.proofs.Tests.{absurd-bool, and-false, and-off, or-off}
+use Rattle.rules.proofs.Tests.{absurd-bool, and-false}
 
 -- ---- classes that allow more
 
@@ -129,18 +132,37 @@ module _ (L : Listing) where
 
 -- ---- the former table
 
-and-yes : (b : Bool) → b && true ≡ b
-and-yes true = refl
-and-yes false = refl
-
 mov-unsettled : formerlySettles 0b0000 ≡ false
-mov-unsettled = and-off (settlesOf 0b0000) false (λ q. refl)
+mov-unsettled = refl
+
+-- the functions of four bits, by one computed test; a number past them is taken as the last function
+abbrev alike-at : ℕ → Bool
+alike-at f = eqb f 0b0000 || Bool·beq (formerlySettles f) (settlesOf f)
+
+alike-below : (f : ℕ) → f < 16 → alike-at f ≡ true
+unfolding settlesOf aluOf sumOf differenceOf
+alike-below = at alike-at 16 refl
+
+unsettled-past : (f : ℕ) → 16 ≤ f → settlesOf f ≡ false
+unfolding settlesOf aluOf
+unsettled-past f h = rw (List·getD-eq-default (functions 0 0 false) _ {n = f} h)
+
+same-bool : (a b : Bool) → Bool·beq a b ≡ true → a ≡ b
+same-bool true true e = refl
+same-bool false false e = refl
+same-bool true false e = absurd-bool (sym e)
+same-bool false true e = absurd-bool (sym e)
 
 others-alike : (f : ℕ) → (f ≡ 0b0000 → ⊥) → formerlySettles f ≡ settlesOf f
-others-alike f h = ap (λ (b : Bool). settlesOf f && not b) (ne-eqb f 0b0000 h) ∙ and-yes (settlesOf f)
+others-alike f h =
+    by-test (ltb f 16)
+    (λ q. same-bool _ _ (rw (ne-eqb f 0b0000 h) at (alike-below f (ltb-true f 16 q))))
+    (λ q.
+    let l = ltb-false f 16 q in
+    and-off (leb 0b0001 f) (leb f 0b0100) (λ r. lt-leb f 0b0100 (omega arith)) ∙ sym (unsettled-past f l))
 
 formerly-less : SettlesMore formerlySettles settlesOf
-formerly-less f e = both (settlesOf f) _ e .0
+formerly-less f e = sym (others-alike f (λ z. absurd-bool (sym (rw z at e)))) ∙ e
 
 pub remains : (L : Listing) (answer : ℕ) → answer ≡ admitOf L → Remains L answer
 remains L answer e =

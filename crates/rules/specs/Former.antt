@@ -2,15 +2,15 @@
 -- Assumes nothing.
 use Prim.Native.Nat.{ℕ}
 use mathlib.Core.Path.{_≡_}
-use mathlib.Core.Bool.{Bool, true, false, not, _&&_}
-use lib.Dec.{eqb}
+use mathlib.Core.Bool.{Bool, true, false, _&&_}
+use lib.Dec.{leb}
 use Rattle.alu.specs.Alu.{settlesOf}
 use Rattle.rules.specs.Grounds.{admitBy}
 use Rattle.rules.specs.Sheet.{Listing}
 
--- the former table: function 0000 left V unsettled
+-- the former table. 01: "V: signed overflow for add, addc, sub, subb", "unsettled after every other ALU function", 0000 among them
 abbrev pub formerlySettles : ℕ → Bool
-formerlySettles f = settlesOf f && not (eqb f 0b0000)
+formerlySettles f = leb 0b0001 f && leb f 0b0100
 
 -- a table settles V wherever another one does
 abbrev pub SettlesMore : (less more : ℕ → Bool) → Type 0
@@ -21,6 +21,7 @@ abbrev pub AdmitsMore : Listing → Type 0
 AdmitsMore L = (less more : ℕ → Bool) → SettlesMore less more → admitBy less L ≡ 0 → admitBy more L ≡ 0
 
 pub record Remains (L : Listing) (answer : ℕ) : Type 0 where
+  -- the tables differ at function 0000 alone
   pub mov-unsettled : formerlySettles 0b0000 ≡ false
   pub others-alike : (f : ℕ) → (f ≡ 0b0000 → ⊥) → formerlySettles f ≡ settlesOf f
   pub admitted : admitBy formerlySettles L ≡ 0 → answer ≡ 0

@@ -15,3 +15,11 @@ both false b h = (cc, cc)
 pub neither : (a b : Bool) → a || b ≡ false → (a ≡ false) × (b ≡ false)
 neither true b h = (cc, cc)
 neither false b h = (refl, h)
+
+-- tests that fail
+pub and-off : (a b : Bool) → (a ≡ true → b ≡ false) → a && b ≡ false
+and-off true b h = h refl
+and-off false b h = refl
+
+pub or-off : (a b : Bool) → a ≡ false → b ≡ false → a || b ≡ false
+or-off a b p q = rw (p, q)

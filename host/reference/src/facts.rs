@@ -60,13 +60,18 @@ impl Instruction {
         }
     }
 
-    /// What it does to V.
+    /// What it does to V: what its function does, if it has one.
     fn overflow(self, settles: Settles) -> Effect {
-        match self.form {
-            Form::Alu | Form::AluNone if settles(self.function()) => Effect::Settles,
-            Form::AddImm | Form::CmpImm => Effect::Settles,
-            Form::Alu | Form::AluNone | Form::MaskImm | Form::MaskIn => Effect::Unsettles,
-            _ => Effect::Leaves,
+        let function = match self.form {
+            Form::Alu | Form::AluNone => self.function(),
+            Form::AddImm => Function::Add,
+            Form::CmpImm => Function::Sub,
+            Form::MaskImm | Form::MaskIn => Function::And,
+            _ => return Effect::Leaves,
+        };
+        match settles(function) {
+            true => Effect::Settles,
+            false => Effect::Unsettles,
         }
     }
 
@@ -128,8 +133,8 @@ mod tests {
         assert_eq!(effect([0x00, 0x50]), Effect::Settles); // and
         assert_eq!(effect([0x20, 0x50]), Effect::Settles); // and NONE
         assert_eq!(effect([0x00, 0x00]), Effect::Unsettles); // mov R0, R0
-        assert_eq!(effect([0x10, 0x01]), Effect::Settles); // add Imm8
-        assert_eq!(effect([0x28, 0x01]), Effect::Unsettles); // mask Ra
+        assert_eq!(effect([0x10, 0x01]), Effect::Unsettles); // add Imm8
+        assert_eq!(effect([0x28, 0x01]), Effect::Settles); // mask Ra
         assert_eq!(effect([0x30, 0x01]), Effect::Leaves); // mov Imm8
     }
 

@@ -1,6 +1,6 @@
 -- The tables are computed.
 -- Assumes nothing.
-use Rattle.examples.proofs.Answered.{answered, answered-anew}
+use Rattle.examples.proofs.Answered.{answered, answered-by-both}
 use Rattle.examples.proofs.MarkedRows.{marked-rows}
 use borrow.Author.Needs.{needs}
 use Rattle.demands.proofs.examples.Statement.{statement}
@@ -10,4 +10,4 @@ pub examples-spec : {M : Type 1} → statement M
 examples-spec =
     tie.close
     (tie.spec
-    (λ c. (marked-rows _, (answered, answered-anew))))
+    (λ c. (marked-rows _, (answered, answered-by-both))))
