@@ -3,8 +3,8 @@
 -- Assumes nothing.
 use Prim.Native.Nat.{ℕ, _≤_, _<_}
 use native.Mathlib.Omega.{arith}
-use mathlib.Core.Path.{_≡_, refl, sym, ap, _∙_}
-use mathlib.Core.Bool.{Bool, true, false, not, _&&_, _||_, Bool·beq}
+use mathlib.Core.Path.{_≡_, refl, sym, _∙_}
+use mathlib.Core.Bool.{Bool, true, false, not, _||_, Bool·beq}
 use lib.Dec.{eqb, leb, ltb}
 use lib.ListN.{List·getD-eq-default}
 use borrow.Author.Tests.{ne-eqb, ltb-true, ltb-false, lt-leb, not-false}
