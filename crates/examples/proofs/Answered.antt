@@ -16,4 +16,4 @@ answered = record { numbers = refl; as-stated = refl }
 
 pub answered-by-both : AnsweredByBoth
 unfolding admitBy checksBy addressChecksBy each firstBroken find callee badBlank badRoutine badEntry word described marked routine depth routines entry need instrAt decodeOf formOf settlesOf aluOf sumOf differenceOf
-answered-by-both = record { as-now = refl; as-formerly = refl }
+answered-by-both = record { seven = refl; as-now = refl; as-formerly = refl }

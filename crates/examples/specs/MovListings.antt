@@ -3,6 +3,7 @@
 use Prim.Native.Nat.{ℕ, _+_, _*_}
 use mathlib.Core.Path.{_≡_}
 use mathlib.Core.List.{List, [], _∷_}
+use lib.ListN.{length}
 use Rattle.rules.specs.Former.{formerlySettles}
 use Rattle.rules.specs.Grounds.{admitBy, admitOf}
 use Rattle.rules.specs.Sheet.{Listing}
@@ -37,6 +38,8 @@ movListings =
     ∷ compared A 0 0
     ∷ []
 
+-- each is answered as worked out, and none is missing
 pub record AnsweredByBoth : Type 0 where
+  pub seven : length movListings ≡ 7
   pub as-now : mapped (λ (x : Compared). admitOf (x .of)) movListings ≡ mapped (λ (x : Compared). x .now) movListings
   pub as-formerly : mapped (λ (x : Compared). admitBy formerlySettles (x .of)) movListings ≡ mapped (λ (x : Compared). x .formerly) movListings

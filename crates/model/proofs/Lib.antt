@@ -6,4 +6,5 @@ pub mod MovClears
 pub mod NeverFull
 pub mod Promises
 pub mod Runs
+pub mod Stops
 pub mod Traces

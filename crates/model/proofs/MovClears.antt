@@ -3,10 +3,9 @@
 use Prim.Native.Nat.{ℕ, zero, suc, _+_, _<_}
 use native.Mathlib.Omega.{arith}
 use mathlib.Core.Path.{_≡_, refl, sym, ap, _∙_}
-use mathlib.Core.Bool.{Bool, true, false, cond, _&&_, _||_}
+use mathlib.Core.Bool.{Bool, true, false, cond, _||_}
 use mathlib.Core.List.{List}
-use lib.Dec.{eqb, leb, eqb·suc-zero}
-use lib.ListN.{length}
+use lib.Dec.{eqb·suc-zero}
 use Rattle.slices.proofs.Bools.{and-off}
 use Rattle.alu.specs.Alu.{aluOf}
 use Rattle.alu.specs.declared.Overflow.the-variants.{Settled}
@@ -15,14 +14,14 @@ use Rattle.isa.specs.declared.Instr.{Instr}
 use Rattle.isa.specs.declared.Instr.the-variants.{Jv, Jnv, Jlt, Jle}
 use Rattle.model.specs.AfterMov.{AppliesMov, with-destination, without-destination, JumpsTo, VClear, MovClears}
 use Rattle.model.specs.Plan.{valueOf, differ, planOf}
-use Rattle.model.specs.Run.{Ended, testsOverflow, firstStop, verdictOf, verdictAt, runOf}
+use Rattle.model.specs.Run.{testsOverflow, verdictOf, verdictAt, runOf}
 use Rattle.model.specs.State.{nextAddress, withPc}
 use Rattle.model.specs.Step.{Setting, Machine, nextInstr, fetched, topOf, appliedOf, planAt, stepOf}
 use Rattle.model.specs.declared.State.{State}
-use Rattle.model.specs.declared.Stop.{Stop}
-use Rattle.model.specs.declared.Stop.the-variants.{Halted, Spent, Unsettled}
+use Rattle.model.specs.declared.Stop.the-variants.{Unsettled}
 use Rattle.model.specs.declared.Verdict.the-variants.{Stopped}
 use Rattle.model.proofs.Runs.{by-verdict, none-left, run-stops, run-goes}
+use Rattle.model.proofs.Stops.{stopIn, never-unsettled, last-settled}
 use Rattle.model.proofs.Traces.{run-steps}
 
 -- ---- the plan of function 0000
@@ -36,23 +35,6 @@ plan-clears : (i : Instr) → AppliesMov i → (s : State) (top : ℕ) (ram keys
 unfolding aluOf
 plan-clears i with-destination s top ram keys = record { v = refl; c = refl; halted = refl }
 plan-clears i without-destination s top ram keys = record { v = refl; c = refl; halted = refl }
-
--- ---- stops
-
--- only the third test stops by `unsettled`
-settled-goes : (halted spent full : Bool) → firstStop halted spent false full ≡ Stopped Unsettled → ⊥
-settled-goes true spent full e = let z : _≡_ {A = ℕ} 0 1 = cc in omega arith
-settled-goes false true full e = let z : _≡_ {A = ℕ} 0 1 = cc in omega arith
-settled-goes false false true e = let z : _≡_ {A = ℕ} 0 1 = cc in omega arith
-settled-goes false false false e = let z : _≡_ {A = ℕ} 0 1 = cc in omega arith
-
--- with no budget left
-not-unsettled : (halted : Bool) → cond halted Halted Spent ≡ Unsettled → ⊥
-not-unsettled true e = let z : _≡_ {A = ℕ} 0 1 = cc in omega arith
-not-unsettled false e = let z : _≡_ {A = ℕ} 0 1 = cc in omega arith
-
-abbrev stopIn : Ended → Stop
-stopIn e = e .stop
 
 -- ---- jumps
 
@@ -68,17 +50,14 @@ jump-leads false s a = refl
 
 module _ (x : Setting) (m : Machine) (clear : m .core .state .flags .v ≡ Settled false) where
   never-stopped : (n : ℕ) → verdictAt x n m ≡ Stopped Unsettled → ⊥
-  unfolding verdictOf
-  never-stopped n e =
-      settled-goes (m .core .state .halted) (eqb n 0) (writesRoll (nextInstr x m) && leb (length (m .core .roll)) (m .core .words))
-      (rw (clear, and-off (testsOverflow (nextInstr x m)) false (λ q. refl)) at e)
+  never-stopped n = never-unsettled (nextInstr x m) n (m .core) (rw clear (and-off (testsOverflow (nextInstr x m)) false (λ q. refl)))
 
   step-counted : stepOf x m .core .steps ≡ m .core .steps + 1
   unfolding stepOf appliedOf
   step-counted = refl
 
   stopped-later : (n : ℕ) → runOf x n m .stop ≡ Unsettled → m .core .steps < runOf x n m .machine .core .steps
-  stopped-later zero e = absurd (not-unsettled (m .core .state .halted) (sym (ap stopIn (none-left x m)) ∙ e))
+  stopped-later zero e = absurd (last-settled (m .core .state .halted) (sym (ap stopIn (none-left x m)) ∙ e))
   stopped-later (suc n) e =
       by-verdict (verdictAt x (suc n) m)
       (λ y q. absurd (never-stopped (suc n) (q ∙ ap Stopped (sym (ap stopIn (run-stops x (suc n) m y q)) ∙ e))))

@@ -11,15 +11,15 @@ use Rattle.slices.proofs.Bools.{both}
 use Rattle.alu.specs.Alu.{isSettled}
 use Rattle.isa.specs.Facts.{writesRoll}
 use Rattle.isa.specs.declared.Instr.{Instr}
-use Rattle.model.specs.Run.{Ended, testsOverflow, firstStop, verdictOf, verdictAt, runOf}
+use Rattle.model.specs.Run.{testsOverflow, firstStop, verdictOf, verdictAt, runOf}
 use Rattle.model.specs.Step.{Setting, Core, Machine, nextInstr, wordsAfter, appliedOf, planAt, stepOf}
-use Rattle.model.specs.declared.Stop.{Stop}
-use Rattle.model.specs.declared.Stop.the-variants.{Halted, Spent, Unsettled, Full}
+use Rattle.model.specs.declared.Stop.the-variants.{Halted, Spent, Full}
 use Rattle.model.specs.declared.Verdict.the-variants.{Stopped}
 use Rattle.model.specs.declared.Write.{Write}
 use Rattle.model.specs.declared.Write.the-variants.{Nothing, Data, Stack, Roll}
 use Rattle.model.proofs.Kept.{step-keeps}
 use Rattle.model.proofs.Runs.{by-verdict, none-left, run-stops, run-goes}
+use Rattle.model.proofs.Stops.{stopIn}
 
 words-grow : (w : Write) (k : ℕ) → wordsAfter w k ≤ k + 1
 words-grow Nothing k = omega arith
@@ -51,9 +51,6 @@ module _ (x : Setting) where
   step-writes : (m : Machine) → stepOf x m .core .words ≤ m .core .words + 1
   unfolding stepOf appliedOf
   step-writes m = words-grow (planAt x (nextInstr x m) m .write) (m .core .words)
-
-  abbrev stopIn : Ended → Stop
-  stopIn e = e .stop
 
   pub never-full : (n : ℕ) (m : Machine) → m .core .words + n ≤ length (m .core .roll) → runOf x n m .stop ≡ Full → ⊥
   never-full zero m l e = not-full (m .core .state .halted) (sym (ap stopIn (none-left x m)) ∙ e)

@@ -2,32 +2,26 @@
 -- Assumes nothing.
 use Prim.Native.Nat.{ℕ, zero, suc, _+_}
 use native.Mathlib.Omega.{arith}
-use mathlib.Core.Path.{_≡_, refl, sym, ap, _∙_}
+use mathlib.Core.Path.{_≡_, refl, sym}
 use mathlib.Core.List.{List, [], _∷_, _++_}
-use mathlib.Core.Bool.{Bool, true, false, not, cond, _&&_, _||_}
-use lib.Dec.{eqb, leb, ltb}
+use mathlib.Core.Bool.{Bool, true}
 use lib.ListN.{length}
-use Rattle.alu.specs.Alu.{isSettled}
-use Rattle.isa.specs.Facts.{writesRoll}
 use Rattle.isa.specs.declared.Instr.{Instr}
-use Rattle.model.specs.Run.{testsIn, testsOverflow, verdictOf, verdictAt, Ended, ended, runOf, traceOf, Outcome, Call, reported, badBanks, badPosition, badBudget, refusalOf, refusedOf, callOf}
+use Rattle.model.specs.Run.{testsIn, verdictOf, verdictAt, Ended, ended, runOf, traceOf, Outcome, Call, refusalOf, refusedOf}
 use Rattle.model.specs.State.{startWith}
-use Rattle.model.specs.Step.{Program, Setting, Core, Machine, machineAt, nextInstr, stepOf}
-use Rattle.model.specs.declared.Answer.the-variants.{Refused}
+use Rattle.model.specs.Step.{Setting, Core, Machine, machineAt, nextInstr, stepOf}
 use Rattle.model.specs.declared.Refusal.{Refusal}
-use Rattle.model.specs.declared.Refusal.the-variants.{BadBank, BadPosition, BadBudget}
-use Rattle.model.specs.declared.State.{State}
 use Rattle.model.specs.declared.Stop.{Stop}
-use Rattle.model.specs.declared.Stop.the-variants.{Halted, Spent, Unsettled, Full}
-use Rattle.model.specs.declared.Verdict.{Verdict}
+use Rattle.model.specs.declared.Stop.the-variants.{Halted, Unsettled}
 use Rattle.model.specs.declared.Verdict.the-variants.{Go, Stopped}
 use Rattle.slices.proofs.Bools.{by-test}
 use Rattle.model.proofs.Promises.{by-precheck}
 use Rattle.model.proofs.Runs.{by-verdict, none-left, run-stops, run-goes}
+use Rattle.model.proofs.Stops.{never-unsettled, last-settled}
 use Rattle.model.proofs.Traces.{trace-stops, trace-goes, run-steps}
 use Rattle.rules.specs.Demand.{Tallied, NotUnsettled, NoneUnsettled, Leads, TraceIs, Bytes}
 use Rattle.rules.specs.RunLists.{Snapshot, Start, resume, restart, ListedRun, callIn, outcomeOf, leftBy, Event, starts, steps, stepsIn, startEvents, runMachine, eventsBy, runEvents, outcomes, events}
-use Rattle.rules.specs.Sheet.{Listing, described, marked, routine, depth, need, entry, classAt}
+use Rattle.rules.specs.Sheet.{Listing, classAt}
 use Rattle.rules.specs.Tally.{Entry, tally}
 use Rattle.rules.proofs.AdmittedRules.{Admitted}
 use Rattle.rules.proofs.Frames.{bottom}
@@ -39,24 +33,6 @@ use Rattle.rules.proofs.Invariant.{settingOf, Running, Safe, running, d
 pub halted-stops : (i : Instr) (n : ℕ) (k : Core) → k .state .halted ≡ true → verdictOf i n k ≡ Stopped Halted
 unfolding verdictOf
 halted-stops i n k e = rw e
-
-not-by : (t : Bool) (x : Stop) (v : Verdict) → cond t (Stopped x) v ≡ Stopped Unsettled → (x ≡ Unsettled → ⊥) → v ≡ Stopped Unsettled
-not-by true x v e h = absurd (h (cc))
-not-by false x v e h = e
-
--- no stop is `unsettled` where V is settled if it is tested
-never-unsettled : (i : Instr) (n : ℕ) (k : Core) → testsOverflow i && not (isSettled (k .state .flags .v)) ≡ false → verdictOf i n k ≡ Stopped Unsettled → ⊥
-unfolding verdictOf
-never-unsettled i n k q e =
-    let e₁ = not-by (k .state .halted) Halted _ e (λ x. let z : _≡_ {A = ℕ} 0 1 = cc in omega arith) in
-    let e₂ = not-by (eqb n 0) Spent _ e₁ (λ x. let z : _≡_ {A = ℕ} 0 1 = cc in omega arith) in
-    let e₃ : cond (writesRoll i && leb (length (k .roll)) (k .words)) (Stopped Full) Go ≡ Stopped Unsettled = rw q at e₂ in
-    let e₄ = not-by (writesRoll i && leb (length (k .roll)) (k .words)) Full _ e₃ (λ x. let z : _≡_ {A = ℕ} 0 1 = cc in omega arith) in
-    let z : _≡_ {A = ℕ} 0 1 = cc in omega arith
-
-last-settled : (t : Bool) → cond t Halted Spent ≡ Unsettled → ⊥
-last-settled true e = let z : _≡_ {A = ℕ} 0 1 = cc in omega arith
-last-settled false e = let z : _≡_ {A = ℕ} 0 1 = cc in omega arith
 
 -- ---- the steps of a run lead to what it leaves
 

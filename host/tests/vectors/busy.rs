@@ -61,7 +61,7 @@ fn left(block: &Block, before: &Buffers) -> Result<Buffers, String> {
 
 #[cfg(test)]
 mod tests {
-    use crate::file::only;
+    use crate::file::{expect_wrong, only};
 
     /// A busy run of `jmp 0`.
     const JUMPS: &str = "case: a\ncall: run\nop: A0*256\narg: 00*256\ndata: 11*256\n\
@@ -80,11 +80,7 @@ mod tests {
 
     #[test]
     fn busy_runs_that_do_not_hold() {
-        let wrong = |from: &str, to: &str| {
-            let case = JUMPS.replacen(from, to, 1);
-            assert_ne!(case, JUMPS, "{from:?}");
-            assert!(only("a.txt", &case).is_err(), "{to}");
-        };
+        let wrong = |from, to| expect_wrong(JUMPS, from, to);
         wrong("stop: spent", "stop: full");
         wrong("stop: spent", "stop: later");
         wrong("\nsteps: 12", "\nsteps: 11");

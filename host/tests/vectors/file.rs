@@ -80,6 +80,14 @@ pub fn only(name: &str, text: &str) -> Outcome {
     outcome.clone()
 }
 
+/// Fails unless the one case of a file, which holds, no longer does with something else in it.
+#[cfg(test)]
+pub fn expect_wrong(case: &str, from: &str, to: &str) {
+    let wrong = case.replacen(from, to, 1);
+    assert_ne!(wrong, case, "{from:?}");
+    assert!(only("a.txt", &wrong).is_err(), "{to}");
+}
+
 #[cfg(test)]
 mod tests {
     use super::*;

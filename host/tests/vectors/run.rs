@@ -108,7 +108,7 @@ pub fn report(block: &Block) -> Result<Report, String> {
 
 #[cfg(test)]
 mod tests {
-    use crate::file::only;
+    use crate::file::{expect_wrong, only};
 
     /// A run of push R1, mov [5], R1, mov LCD, R1, mov R0, R1 and hlt.
     const RUN: &str = "case: a\ncall: run\nop: 5D55E901F8+00*251\narg: 0005000100+00*251\n\
@@ -133,11 +133,7 @@ mod tests {
 
     #[test]
     fn runs_that_do_not_hold() {
-        let wrong = |from: &str, to: &str| {
-            let case = RUN.replacen(from, to, 1);
-            assert_ne!(case, RUN, "{from:?}");
-            assert!(only("a.txt", &case).is_err(), "{to}");
-        };
+        let wrong = |from, to| expect_wrong(RUN, from, to);
         wrong("stop: halted", "stop: spent");
         wrong("stop: halted", "stop: later");
         wrong("\nsteps: 5", "\nsteps: 4");
