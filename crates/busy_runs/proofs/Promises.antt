@@ -8,6 +8,7 @@ use native.Mathlib.Omega.{arith}
 use lib.Dec.{eqb, ltb}
 use lib.ListN.{length, drop}
 use borrow.Author.Tests.{eqb-true, ltb-false}
+use Rattle.slices.specs.Lists.{totalOf}
 use Rattle.slices.proofs.Bools.{by-test, neither}
 use Rattle.pages.specs.Page.{Page, page}
 use Rattle.pages.proofs.Pages.{write-whole}
@@ -16,7 +17,7 @@ use Rattle.model.specs.declared.Precheck.{Precheck}
 use Rattle.model.specs.declared.Precheck.the-variants.{Passed, Failed}
 use Rattle.model.specs.declared.Refusal.the-variants.{BadBank}
 use Rattle.model.proofs.Promises.{precheckNumber, first-named, passed-call, failed-call, passed-budget}
-use Rattle.executions.specs.Executed.{countersOf, totalOf}
+use Rattle.executions.specs.Executed.{countersOf}
 use Rattle.executions.specs.internal.Addresses.{Addresses}
 use Rattle.executions.proofs.Counting.{counters-add-up}
 use Rattle.executions.proofs.Steps.{executed-fits, executed-steps}

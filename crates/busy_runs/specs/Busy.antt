@@ -7,13 +7,14 @@ use mathlib.Core.List.{List, _∷_, _++_}
 use lib.Dec.{eqb, ltb}
 use lib.ListN.{length, drop}
 use Rattle.slices.specs.Checks.{Check, FirstViolation}
+use Rattle.slices.specs.Lists.{totalOf}
 use Rattle.model.specs.Run.{Call, Outcome, Cause, cause, causes, firstCause, machineOf, reported, refusedOf, runOf, callOf, answerNumber, checksOf}
 use Rattle.model.specs.declared.Answer.{Answer}
 use Rattle.model.specs.declared.Answer.the-variants.{Refused, Ran}
 use Rattle.model.specs.declared.Precheck.{Precheck}
 use Rattle.model.specs.declared.Precheck.the-variants.{Passed, Failed}
 use Rattle.model.specs.declared.Refusal.the-variants.{BadBank}
-use Rattle.executions.specs.Executed.{executedOf, countersOf, totalOf}
+use Rattle.executions.specs.Executed.{executedOf, countersOf}
 use Rattle.ranking.specs.Busier.{isExecuted, busier}
 use Rattle.ranking.specs.Ranking.{StrictOrder, In, Ranking}
 use Rattle.busy_runs.specs.Lines.{lineOf, linesOf}

@@ -9,9 +9,10 @@ use lib.Dec.{eqb}
 use lib.ListN.{length, getD, set, replicate, length-set, length-replicate, getD-replicate}
 use lib.Seq.{getD-set-same, getD-set-other, ext-getD}
 use borrow.Author.Tests.{eqb-true, eqb-false}
+use Rattle.slices.specs.Lists.{totalOf}
 use Rattle.slices.specs.Sizes.{bankSize}
 use Rattle.slices.proofs.Bools.{by-test}
-use Rattle.executions.specs.Executed.{timesIn, tableFrom, countersOf, totalOf}
+use Rattle.executions.specs.Executed.{timesIn, tableFrom, countersOf}
 use Rattle.executions.specs.internal.Addresses.{Addresses}
 
 -- counters after one more execution of an address

@@ -30,8 +30,3 @@ tableFrom f a (suc n) = f a ∷ tableFrom f (suc a) n
 -- "set to how often each address executed"
 unfoldable pub countersOf : List ℕ → List ℕ
 countersOf executed = tableFrom (timesIn executed) 0 bankSize
-
--- "they add up to"
-abbrev pub totalOf : List ℕ → ℕ
-totalOf [] = 0
-totalOf (x ∷ l) = x + totalOf l

@@ -7,7 +7,7 @@ use mathlib.Core.List.{List, [], _∷_}
 use lib.ListN.{getD}
 use Rattle.isa.specs.Decode.{formOf, decodeOf}
 use Rattle.numbers.specs.Numbers.{instrOf}
-use Rattle.spelling.proofs.Tables.{same-below}
+use Rattle.slices.proofs.Tables.{same-below}
 
 abbrev pub forms : List ℕ
 forms =

@@ -19,7 +19,7 @@ use Rattle.spelling.specs.Spellings.{spellings, patternOf}
 use Rattle.spelling.specs.Words.{inWord, wordLength, digitOf, numeralOf, operandOf}
 use Rattle.reading.specs.Reading.{isPlace, emptyPlaces, scanned, tookOf, literalOf, byteOf, scanOf, readOf}
 use Rattle.spelling.proofs.Rows.{all, all-at}
-use Rattle.spelling.proofs.Tables.{same-below}
+use Rattle.slices.proofs.Tables.{same-below}
 use Rattle.printing.specs.Print.{register, shownAt, filled}
 use Rattle.printing.proofs.ValidFields.{InRange}
 

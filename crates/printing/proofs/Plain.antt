@@ -16,7 +16,7 @@ use Rattle.numbers.specs.Numbers.{fieldsOf}
 use Rattle.numbers.specs.declared.Fields.{Fields}
 use Rattle.spelling.specs.Spellings.{spellings, patternOf}
 use Rattle.spelling.proofs.Rows.{all, all-at}
-use Rattle.spelling.proofs.Tables.{same-below}
+use Rattle.slices.proofs.Tables.{same-below}
 use Rattle.printing.specs.Print.{shownAt, filled, spellingRow, textOf}
 use Rattle.printing.proofs.ValidFields.{row-told}
 

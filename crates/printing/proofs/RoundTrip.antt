@@ -19,7 +19,7 @@ use Rattle.spelling.specs.declared.Places.{Places}
 use Rattle.reading.specs.Reading.{emptyPlaces, fits, readOf, matchedOf}
 use Rattle.spelling.specs.Spellings.{spellings, patternOf, formAt, functionAt, tableForm, formsOf}
 use Rattle.reading.proofs.OneRow.{row-found}
-use Rattle.spelling.proofs.Tables.{same-below}
+use Rattle.slices.proofs.Tables.{same-below}
 use Rattle.printing.specs.Print.{filled, spellingRow, textOf}
 use Rattle.printing.specs.Shown.{shownFields, shownOf}
 use Rattle.printing.proofs.OwnRow.{placesBy, read-own}

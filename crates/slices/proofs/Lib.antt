@@ -5,3 +5,4 @@ pub mod Bools
 pub mod Checks
 pub mod Lookup
 pub mod Parts
+pub mod Tables

@@ -1,4 +1,3 @@
 pub mod Entries
 pub mod Rows
 pub mod Runs
-pub mod Tables

@@ -14,7 +14,7 @@ use Rattle.spelling.specs.Spellings.{formsOf}
 use Rattle.reading.specs.declared.Matched.{Matched}
 use Rattle.reading.specs.declared.Matched.the-variants.{Fits, Misfit}
 use Rattle.spelling.specs.declared.Places.{Places}
-use Rattle.spelling.proofs.Tables.{same-below}
+use Rattle.slices.proofs.Tables.{same-below}
 use Rattle.labels.specs.Lines.{linesOf, labelOf, lineOf, sizeIn, sizeOf, wordCount}
 use Rattle.labels.specs.Labels.{same, givenAt, addressOf}
 use Rattle.labels.specs.internal.Search.{firstLine, more, countFrom, Addresses}

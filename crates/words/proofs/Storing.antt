@@ -13,7 +13,7 @@ use Rattle.isa.specs.declared.Instr.{Instr}
 use Rattle.isa.specs.declared.Instr.the-variants.{Nop}
 use Rattle.spelling.specs.Spellings.{formsOf}
 use Rattle.spelling.specs.declared.Places.{Places}
-use Rattle.spelling.proofs.Tables.{same-below}
+use Rattle.slices.proofs.Tables.{same-below}
 use Rattle.words.specs.internal.Storing.{storedIn}
 
 pub stored-append : (byte : Instr → ℕ) (xs ys : List Instr) (at : ℕ) (b : List ℕ)
