@@ -99,7 +99,7 @@ pub fn state_numbers(s: State) -> StateNumbers
 }
 
 // The number of a stop.
-fn stop_number(x: Stop) -> u8
+pub fn stop_number(x: Stop) -> u8
     ensures { λ r. ⌜ r ≡ stopNumber x ⌝ }
 {
     match x {

@@ -1,0 +1,16 @@
+-- Each arm is its clause.
+-- Assumes nothing.
+use borrow.Author.Needs.{needs}
+use Rattle.seating.proofs.seat_report.Statement.{statement}
+use Rattle.seating.proofs.seat_report.Tie as tie
+
+pub seat-report-spec : {M : Type 1} → statement M
+seat-report-spec =
+    tie.close
+    (tie.spec
+    (λ c. search needs)
+    (λ c κs. search needs)
+    (λ c. search needs)
+    (λ c κs. search needs)
+    (λ c. (rw (c .idle .ensures .0, c .before .enum-told .given .1), c .idle .ensures .1))
+    (λ c. (rw (c .with-seat .ensures .0, c .before .before .answer .given .1), c .with-seat .ensures .1)))
