@@ -100,8 +100,34 @@
 //! [`Board::run_busy`] tells where the steps of a run went: how often each address executed, and a
 //! page of them, the busiest first.
 //!
-//! If you keep your own buffers, call [`assemble_into`], [`draw_into`], [`admit`], [`run`] and
-//! [`run_busy`] on them, and [`decode`], [`encode`] and [`put`] on single instructions:
+//! A [`Room`] has up to eight boards that take turns. A turn runs one [`Seat`] for a slice of 1 to
+//! 1,000 steps and passes over those that can't go on. A seat comes to what its listing comes to
+//! alone:
+//!
+//! ```
+//! # fn main() -> Result<(), Box<dyn std::error::Error>> {
+//! use cesca::{assemble, Listing, Room};
+//!
+//! let source = b"mov R0, IN\nloop: mov OUT, R0\ndec R0\njnz loop\nhlt\n";
+//! let banks = assemble(source)?;
+//! let countdown = Listing::from_banks(banks.opcodes, banks.arguments)?.admit()?;
+//! let mut room = Room::new();
+//! for key in [3, 200] {
+//!     room.add(&countdown, &[key], 0)?; // with a roll of no words
+//! }
+//! let mut steps = [0; 2];
+//! while let Some(turn) = room.turn(100)? {
+//!     steps[turn.seat] += turn.steps;
+//! }
+//! assert_eq!(steps, [11, 602]);
+//! assert!(room.seats().all(|seat| seat.state().halted && seat.state().out == 1));
+//! # Ok(())
+//! # }
+//! ```
+//!
+//! If you keep your own buffers, call [`assemble_into`], [`draw_into`], [`admit`], [`run`],
+//! [`run_busy`] and [`turn`] on them, and [`decode`], [`encode`] and [`put`] on single
+//! instructions:
 //!
 //! ```
 //! use cesca::{Lent, State, Stop};
@@ -138,11 +164,13 @@ mod explain;
 mod instruction;
 mod listing;
 mod raw;
+mod room;
 #[cfg(test)]
 mod samples;
 mod sheet;
 mod source;
 mod text;
+mod turns;
 
 pub use admitted::Admitted;
 pub use board::Board;
@@ -152,6 +180,8 @@ pub use calls::{admit, alu, decode, encode, facts, put, run, running_time};
 pub use cesca_types::*;
 pub use draw::{draw, draw_into};
 pub use listing::Listing;
+pub use room::{Room, Seat};
 pub use sheet::{Routine, SheetWord};
 pub use source::{assemble, assemble_into, print, SourceRefusal};
 pub use text::{instruction_text, TextError};
+pub use turns::turn;

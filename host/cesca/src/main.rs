@@ -1,5 +1,5 @@
 //! The program `cesca`: assembles texts, draws sheets, admits listings, runs them, tells where the
-//! steps went, shows their sheets and steps through them.
+//! steps went, lets several take turns, shows their sheets and steps through them.
 
 mod program;
 

@@ -18,6 +18,7 @@ mod output;
 mod owners;
 mod print;
 mod roll;
+mod room;
 mod run;
 mod sheet;
 mod step;

@@ -5,6 +5,7 @@ pub mod busy;
 pub mod draw;
 pub mod run;
 pub mod source;
+pub mod turn;
 
 use cesca_types::{AluAnswer, Class, Effect, Facts, Fields, Overflow, Refusal};
 use std::fmt::Display;

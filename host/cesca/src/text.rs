@@ -9,6 +9,6 @@ mod numbers;
 #[cfg(test)]
 mod tests;
 
-pub use count::bytes;
+pub use count::{bytes, counted};
 pub use error::TextError;
 pub use instruction::{instruction_text, mnemonic};

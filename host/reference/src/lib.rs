@@ -1,5 +1,5 @@
-//! Desk, machine, assembler and drawing written once more, from the papers alone, to hold the proved
-//! library against.
+//! Desk, machine, assembler, drawing and turns written once more, from the papers alone, to hold
+//! the proved library against.
 //!
 //! The instruction table is kept as text, letter for letter as the CESCA document prints it, and
 //! read bit by bit. Speed is no aim here; a reader with the document beside the table is. The
@@ -17,6 +17,7 @@ mod form;
 mod instruction;
 mod listing;
 mod machine;
+mod seats;
 mod sheet;
 mod source;
 mod text;
@@ -30,5 +31,6 @@ pub use form::Form;
 pub use instruction::Instruction;
 pub use listing::Listing;
 pub use machine::{run, run_watched, Step};
+pub use seats::turn;
 pub use sheet::{Routine, SheetWord};
 pub use source::{assemble, print};

@@ -45,6 +45,12 @@ pub fn run_watched(
     }
 }
 
+/// The stop that prevents the next step of a machine that has steps left, if one does.
+pub(super) fn next_stop(lent: Lent<'_>, state: State) -> Option<Stop> {
+    let machine = Machine { lent, state, words: 0 };
+    machine.stop(machine.instruction().form, false)
+}
+
 /// Whether a run may begin.
 fn check(lent: &Lent<'_>, budget: u32, start: State) -> Result<(), Refusal> {
     let banks = [lent.opcodes, lent.arguments, lent.ram, lent.stack];

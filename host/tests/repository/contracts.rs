@@ -5,7 +5,7 @@ use crate::functions::functions;
 use crate::source::{below, crates, Source};
 
 /// The functions that a crate's users begin with, crate by crate.
-const ENTRIES: [(&str, &[&str]); 12] = [
+const ENTRIES: [(&str, &[&str]); 13] = [
     ("decoding", &["decode"]),
     ("encoding", &["encode", "put"]),
     ("classes", &["classify"]),
@@ -17,6 +17,7 @@ const ENTRIES: [(&str, &[&str]); 12] = [
     ("report", &["answer"]),
     ("printing", &["print"]),
     ("assembling", &["assemble"]),
+    ("seating", &["turn"]),
     ("demands", &DEMANDS),
 ];
 

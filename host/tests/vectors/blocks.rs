@@ -23,13 +23,17 @@ impl<'a> Block<'a> {
 
     /// The value of a key that the block may have once.
     pub fn optional(&self, key: &str) -> Result<Option<&'a str>, String> {
-        let entries = self.entries()?;
-        let mut values = entries.iter().filter(|(name, _)| *name == key).map(|(_, value)| *value);
-        let first = values.next();
-        match values.next() {
-            Some(_) => Err(format!("{key} stands twice")),
-            None => Ok(first),
+        match self.values(key)?[..] {
+            [] => Ok(None),
+            [value] => Ok(Some(value)),
+            _ => Err(format!("{key} stands twice")),
         }
+    }
+
+    /// The values of a key that the block may have again and again, in order.
+    pub fn values(&self, key: &str) -> Result<Vec<&'a str>, String> {
+        let entries = self.entries()?.into_iter();
+        Ok(entries.filter(|(name, _)| *name == key).map(|(_, value)| value).collect())
     }
 
     /// Success if all keys are among these and those of every case.
@@ -65,5 +69,21 @@ mod tests {
         assert_eq!(found[0].expect_keys(&["text"]), Ok(()));
         assert_eq!(found[0].expect_keys(&[]), Err("no key \"text\" is known".to_string()));
         assert!(found[1].value("case").is_err());
+    }
+
+    #[test]
+    fn a_key_again_has_its_values_in_order() {
+        let text = "case: a\nturn: 2\nstate: 5\nturn: 1\nturns: 9\nturn: 2\n\nturn: 3\nno\n";
+        let found = blocks(text);
+        assert_eq!(found[0].values("turn"), Ok(vec!["2", "1", "2"]));
+        assert_eq!(found[0].values("state"), Ok(vec!["5"]));
+        assert_eq!(found[0].values("op"), Ok(vec![]));
+        assert_eq!(found[0].optional("state"), Ok(Some("5")));
+        for twice in [found[0].optional("turn").err(), found[0].value("turn").err()] {
+            assert_eq!(twice, Some("turn stands twice".to_string()));
+        }
+        assert_eq!(found[0].expect_keys(&["turn", "turns", "state"]), Ok(()));
+        assert!(found[0].expect_keys(&["turns", "state"]).is_err());
+        assert_eq!(found[1].values("turn"), Err("\"no\" is no key and value".to_string()));
     }
 }

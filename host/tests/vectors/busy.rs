@@ -42,7 +42,7 @@ pub fn run(block: &Block) -> Outcome {
 fn lent(block: &Block) -> Result<Buffers, String> {
     let counters = Guarded::new(numbers(block.value("counters")?)?);
     let page = Guarded::new(bytes(block.value("page")?)?);
-    Ok(Buffers { memory: run::lent(block)?, counters, page })
+    Ok(Buffers { memory: run::lent(block, "roll")?, counters, page })
 }
 
 /// What a case wants the buffers to hold that held this before.

@@ -17,6 +17,9 @@ mod file;
 #[allow(dead_code)]
 #[path = "../common/memory.rs"]
 mod memory;
+#[path = "../seats/room.rs"]
+mod room;
+mod rooms;
 mod run;
 #[path = "../busy/runners.rs"]
 mod runners;
@@ -29,12 +32,15 @@ mod source;
 #[allow(dead_code)]
 #[path = "../common/stored.rs"]
 mod stored;
+#[path = "../seats/turners.rs"]
+mod turners;
+mod turns;
 mod values;
 
 use stored::{names, path, text};
 
 /// The folders that must be there; any other that lies beside them is run too.
-const FOLDERS: [&str; 4] = ["01-text", "02-drawn", "03-busy", "04-mov-v"];
+const FOLDERS: [&str; 5] = ["01-text", "02-drawn", "03-busy", "04-mov-v", "05-seats"];
 
 /// The folders of cases that lie here.
 fn folders() -> Vec<String> {

@@ -30,7 +30,7 @@ pub fn run(block: &Block) -> Outcome {
     let answers = [&ANSWERS[..], &LEFT].concat();
     block.expect_keys(&[&LENT[..], &answers, &["refused"]].concat())?;
     let (budget, start) = call(block)?;
-    let before = lent(block)?;
+    let before = lent(block, "roll")?;
     let wanted = left(block, &before)?;
     let answer = match refused(block, &answers)? {
         Some(number) => Err(number),
@@ -54,8 +54,8 @@ pub fn call(block: &Block) -> Result<(u32, State), String> {
     Ok((number(block.value("budget")?)?, state(block.value("state")?)?))
 }
 
-/// The buffers that a case lends.
-pub fn lent(block: &Block) -> Result<Memory, String> {
+/// The buffers that a case lends, the roll under this key.
+pub fn lent(block: &Block, roll: &str) -> Result<Memory, String> {
     let guarded = |key| block.value(key).and_then(bytes).map(Guarded::new);
     Ok(Memory {
         opcodes: guarded("op")?,
@@ -63,7 +63,7 @@ pub fn lent(block: &Block) -> Result<Memory, String> {
         keys: guarded("keys")?,
         ram: guarded("data")?,
         stack: guarded("stack")?,
-        roll: Guarded::new(numbers(block.value("roll")?)?),
+        roll: Guarded::new(numbers(block.value(roll)?)?),
     })
 }
 

@@ -18,6 +18,12 @@ pub const MOST_READ: usize = 2 * BANK + SHEET + MOST_LIST + 1;
 /// The most steps that a run may be given.
 pub const MOST_STEPS: u32 = 1_000_000;
 
+/// The most seats of a room.
+pub const MOST_SEATS: usize = 8;
+
+/// The most steps of a turn's slice.
+pub const MOST_SLICE: u32 = 1_000;
+
 /// The bytes of a line of the page of busy addresses: 34 characters and a line feed.
 pub const LINE: usize = 35;
 

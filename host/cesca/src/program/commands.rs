@@ -3,7 +3,7 @@
 use super::console::Console;
 use super::failure::Failure;
 use super::options::Options;
-use super::{admit, assemble, busy, draw, file, print, run, sheet, step};
+use super::{admit, assemble, busy, draw, file, print, room, run, sheet, step};
 use std::ops::RangeInclusive;
 
 /// A command.
@@ -14,24 +14,46 @@ pub struct Command {
     pub files: &'static str,
     /// How many they may be.
     pub number: RangeInclusive<usize>,
-    /// The options that it takes, each with what stands for its value.
-    pub options: &'static [(&'static str, &'static str)],
+    /// The options that it takes, each with the kind of its value.
+    pub options: &'static [(&'static str, Value)],
     /// What it does, line by line.
     pub about: &'static [&'static str],
     /// Does it.
     pub run: fn(&mut Console, &Options) -> Result<(), Failure>,
 }
 
+/// The kinds of values that options have.
+#[derive(Clone, Copy)]
+pub enum Value {
+    /// Keys.
+    Keys,
+    /// A number for a call that refuses the highest of 32 bits, which stands for all above it.
+    Judged,
+    /// A number of 32 bits; one above them is wrong.
+    Exact,
+}
+
 impl Command {
-    /// How the command is typed.
+    /// How the command is typed. An option that stands behind a file is shown there.
     pub fn usage(&self) -> String {
-        let options = self.options.iter().map(|(name, value)| format!(" [{name} {value}]"));
+        let options = self.options.iter().filter(|(name, _)| !self.files.contains(name));
+        let options = options.map(|(name, value)| format!(" [{name} {}]", value.shown()));
         format!("cesca {} {}{}", self.name, self.files, options.collect::<String>())
     }
 }
 
+impl Value {
+    /// What the help shows for such a value.
+    fn shown(self) -> &'static str {
+        match self {
+            Value::Keys => "1,2,3",
+            Value::Judged | Value::Exact => "N",
+        }
+    }
+}
+
 /// The commands, in the order of the help.
-pub static COMMANDS: [Command; 9] = [
+pub static COMMANDS: [Command; 10] = [
     Command {
         name: "admit",
         files: "FILE..",
@@ -44,7 +66,7 @@ pub static COMMANDS: [Command; 9] = [
         name: "run",
         files: "FILE",
         number: 1..=1,
-        options: &[("--keys", "1,2,3"), ("--steps", "N"), ("--hz", "N")],
+        options: &[("--keys", Value::Keys), ("--steps", Value::Judged), ("--hz", Value::Judged)],
         about: &[
             "Runs an admitted listing from the start, with zero data and stack, for",
             "1,000,000 steps at most or as many as --steps says. Keys are decimal or as",
@@ -59,7 +81,7 @@ pub static COMMANDS: [Command; 9] = [
         name: "busy",
         files: "FILE",
         number: 1..=1,
-        options: &[("--keys", "1,2,3"), ("--steps", "N"), ("--hz", "N")],
+        options: &[("--keys", Value::Keys), ("--steps", Value::Judged), ("--hz", Value::Judged)],
         about: &[
             "Runs an admitted listing as `cesca run` does, and shows where the steps",
             "went: behind what `cesca run` tells, a line for each address that executed,",
@@ -67,6 +89,21 @@ pub static COMMANDS: [Command; 9] = [
             "address in hexadecimal, how often it executed, and the instruction.",
         ],
         run: busy::busy,
+    },
+    Command {
+        name: "room",
+        files: "FILE [--keys 1,2,3] ..",
+        number: 1..=usize::MAX,
+        options: &[("--keys", Value::Keys), ("--slice", Value::Exact), ("--steps", Value::Exact)],
+        about: &[
+            "Lets the boards of up to eight admitted listings take turns, in the order of",
+            "the files, and shows a line for each. --keys stands behind the FILE that it",
+            "is for. A turn has 1,000 steps at most, or as many as --slice says, 1 to",
+            "1,000. All boards together make 1,000,000 steps at most, or as many as",
+            "--steps says, up to 4,294,967,295; a board that could go on then is spent.",
+            "A roll has a word for each step, but 1,000,000 at most.",
+        ],
+        run: room::room,
     },
     Command {
         name: "sheet",
@@ -83,7 +120,7 @@ pub static COMMANDS: [Command; 9] = [
         name: "step",
         files: "FILE",
         number: 1..=1,
-        options: &[("--keys", "1,2,3")],
+        options: &[("--keys", Value::Keys)],
         about: &[
             "Steps through the run of an admitted listing. On standard input, an empty",
             "line makes a step, a number makes that many, and q ends.",

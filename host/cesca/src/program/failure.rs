@@ -1,6 +1,6 @@
 //! What can keep the program from doing what it is asked.
 
-use cesca::TextError;
+use cesca::{Refusal, TextError};
 use std::error::Error;
 use std::ffi::OsStr;
 use std::fmt::{self, Display, Formatter};
@@ -38,6 +38,11 @@ impl Failure {
     /// The refusal of a file's listing, of its source, or of a call for it.
     pub fn of_refusal(name: &OsStr, refusal: &impl Error) -> Failure {
         Failure::Refused(format!("{}: refused {refusal}", name.display()))
+    }
+
+    /// The refusal of a call for the value of an option.
+    pub fn of_option(option: &str, refusal: &Refusal) -> Failure {
+        Failure::Refused(format!("{option}: refused {refusal}"))
     }
 
     /// The refusal of a listing's text.

@@ -25,8 +25,7 @@ pub fn after_run<T>(
     // A step writes one word at most, so the roll is never full.
     let words = steps.min(MOST_STEPS) as usize;
     let mut board = input::admitted(name)?.board().with_roll(words);
-    let keys = options.keys.as_deref().unwrap_or_default();
-    let outcome = run(&mut board, keys, steps);
+    let outcome = run(&mut board, options.keys(0), steps);
     let outcome = outcome.map_err(|refusal| Failure::of_refusal(name, &refusal))?;
     Ok((board, outcome))
 }

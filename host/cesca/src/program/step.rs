@@ -21,7 +21,7 @@ pub fn step(console: &mut Console, options: &Options) -> Result<(), Failure> {
         return Err(Failure::File(format!("{}: {reason}", name.display())));
     }
     let admitted = input::admitted(name)?;
-    let mut session = Session::new(&admitted, options.keys.as_deref().unwrap_or_default());
+    let mut session = Session::new(&admitted, options.keys(0));
     let mut input = io::stdin().lock();
     loop {
         session.show(console)?;

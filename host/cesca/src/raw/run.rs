@@ -118,7 +118,7 @@ fn refused(number: u8) -> Result<Report, Refusal> {
 
 /// The stop with this number.
 #[inline]
-fn stop(number: u8) -> Stop {
+pub(super) fn stop(number: u8) -> Stop {
     match number {
         0 => Stop::Halted,
         1 => Stop::Spent,

@@ -1,6 +1,6 @@
 //! `cesca busy`.
 
-use crate::sandbox::{expect_err, expect_out, stored, Sandbox};
+use crate::sandbox::{expect_err, expect_out, stored, Sandbox, ENDLESS};
 
 /// Shows the keys on the LCD up to a key 0.
 const ECHO: &str = "
@@ -14,9 +14,6 @@ const ECHO: &str = "
     5  8000  A0 00  jmp 0
     6  8000  F8 00  hlt
 ";
-
-/// A board that is never done.
-const ENDLESS: &str = "routine 0 at 0 need 0\n0 8000 A0 00 jmp 0";
 
 /// What is shown of a run that wrote nothing to the roll: stop, steps, cycles and OUT, and these
 /// lines of the page, spaces filling them up to 34 columns.

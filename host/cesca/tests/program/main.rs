@@ -9,6 +9,7 @@ mod file;
 mod pipes;
 mod print;
 mod readme;
+mod room;
 mod run;
 mod sandbox;
 mod sheet;

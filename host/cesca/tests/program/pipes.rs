@@ -1,12 +1,9 @@
 //! Outputs that nobody reads, and outputs that can't be written.
 
-use crate::sandbox::{expect_err, ran, Sandbox};
+use crate::sandbox::{expect_err, ran, Sandbox, ENDLESS};
 use std::fs::OpenOptions;
 use std::io::{self, BufRead, BufReader, Write};
 use std::process::Stdio;
-
-/// A listing that never stops.
-const ENDLESS: &str = "routine 0 at 0 need 0\n0 8000 A0 00 jmp 0";
 
 /// A directory with a listing that is admitted, one that is refused, one without an end, its text,
 /// and its source.
@@ -26,6 +23,7 @@ fn a_closed_pipe_ends_every_command_quietly() {
         (&["admit", "pushes.bin", "pushes.bin"], 0),
         (&["run", "pushes.bin"], 0),
         (&["busy", "pushes.bin"], 0),
+        (&["room", "pushes.bin", "endless.bin"], 0),
         (&["sheet", "pushes.bin"], 0),
         (&["sheet", "masked.bin"], 1),
         (&["step", "pushes.bin"], 0),

@@ -20,7 +20,7 @@ fn asking_changes_no_file_and_makes_none() {
     let sandbox = Sandbox::new("untouched").with_stored(&["a.bin", "masked.bin"]);
     let sandbox = sandbox.with("short.bin", "short").with("mine.txt", "routine 0 at 0 need 0");
     let before = files(&sandbox);
-    for command in ["admit", "run", "busy", "sheet", "step", "assemble", "draw", "print"] {
+    for command in ["admit", "run", "busy", "room", "sheet", "step", "assemble", "draw", "print"] {
         for name in ["a.bin", "masked.bin", "short.bin", "mine.txt", "none.bin"] {
             sandbox.cesca_given(&[command, name], "\n9\n");
         }

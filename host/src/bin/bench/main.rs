@@ -1,6 +1,6 @@
 //! Speed of the library: runs beside two machines in Rust, busy runs beside one of them with
-//! counters and without, admissions, assemblies and drawings beside the reference, and how all of
-//! them grow.
+//! counters and without, turns of a room beside runs, admissions, assemblies and drawings beside
+//! the reference, and how all of them grow.
 
 mod admissions;
 mod assemblies;
@@ -18,6 +18,7 @@ mod programs;
 #[allow(dead_code)]
 #[path = "../../../tests/common/random.rs"]
 mod random;
+mod room;
 #[path = "../../../tests/draw/routines.rs"]
 mod routines;
 mod runs;
@@ -27,6 +28,7 @@ mod sources;
 #[path = "../../../tests/common/stored.rs"]
 mod stored;
 mod timing;
+mod turns;
 
 use std::io::{self, ErrorKind, Write};
 
@@ -47,6 +49,8 @@ fn tables(out: &mut impl Write) -> io::Result<()> {
         growth::routines_table,
         busy::steps_table,
         busy::pages_table,
+        turns::slices_table,
+        turns::steps_table,
         admissions::table,
         assemblies::table,
         assemblies::growth_table,
