@@ -15,6 +15,7 @@ use borrow.Author.Tests.{ltb-true, ltb-false}
 use Rattle.slices.specs.Lists.{mapped}
 use Rattle.slices.specs.Sizes.{bankSize}
 use Rattle.slices.proofs.Bools.{by-test}
+use Rattle.slices.proofs.Lookup.{length-mapped}
 use Rattle.model.specs.State.{startState}
 use Rattle.model.specs.declared.Report.{Report}
 use Rattle.run_numbers.specs.Runs.{stateOf}
@@ -31,7 +32,7 @@ use Rattle.scheduling.specs.internal.Search.{goesBy, seatOr}
 use Rattle.scheduling.specs.declared.SeatLengths.{SeatLengths}
 use Rattle.scheduling.specs.declared.SeatNumbers.{SeatNumbers}
 use Rattle.scheduling.proofs.Finding.{goes-is, alike}
-use Rattle.scheduling.proofs.Numbers.{length-mapped, state-put}
+use Rattle.scheduling.proofs.Numbers.{state-put}
 use Rattle.seating.specs.Reports.{numbersAfter, TurnedAs}
 use Rattle.seating.specs.declared.TurnReport.{TurnReport}
 use Rattle.seating.specs.internal.SeatRuns.{SeatRan, reportBy}

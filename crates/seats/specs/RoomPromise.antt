@@ -1,5 +1,5 @@
--- WHAT REQUEST 5 PROMISES of turns one after another (02 [5]): every seat that can go on has its turns, every seat runs as if it ran alone, and the third demand
--- holds at its seat.
+-- WHAT REQUEST 5 PROMISES of turns one after another (02 [5]): every seat that can go on has its turns, every seat runs as if it ran alone, and
+-- the third demand holds at the seat of an admitted listing.
 -- Assumes nothing.
 use Prim.Native.Nat.{ℕ, _<_}
 use mathlib.Core.Path.{_≡_}

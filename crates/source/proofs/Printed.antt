@@ -12,6 +12,7 @@ use borrow.Author.Tests.{eq-eqb, ne-eqb, eqb-true, eqb-false, le-ltb, not-true}
 use Rattle.slices.specs.Lists.{mapped}
 use Rattle.slices.specs.Sizes.{badBank}
 use Rattle.slices.proofs.Bools.{by-test, both}
+use Rattle.slices.proofs.Lookup.{length-mapped}
 use Rattle.isa.specs.Decode.{forms}
 use Rattle.isa.specs.Encode.{badRegister, badFunction, Valid, joinOf, encodeOf, numberOf}
 use Rattle.isa.specs.declared.Instr.{Instr}
@@ -116,14 +117,10 @@ unfolding formsFrom
 forms-all all [] at h = refl
 forms-all all (i ∷ is) at h = rw (forms-are i (h .0) all at) (ap (λ (js : List Instr). shownOf i ∷ js) (forms-all all is (at + sizeOf (textOf i)) (h .1)))
 
-length-mapped : (is : List Instr) → length (mapped shownOf is) ≡ length is
-length-mapped [] = refl
-length-mapped (i ∷ is) = ap suc (length-mapped is)
-
 pub reads-printed : (t : List ℕ) → ReadsPrinted t
 reads-printed t is h few e =
     record {
-      answers = λ ops args g. unfold answerOf in (rw (sound ops args g, words, length-mapped is));
+      answers = λ ops args g. unfold answerOf in (rw (sound ops args g, words, length-mapped shownOf is));
       opcodes = λ ops args g. rw (sound ops args g, program);
       arguments = λ ops args g. rw (sound ops args g, program);
     }

@@ -13,6 +13,7 @@ use Rattle.isa.specs.declared.Instr.{Instr}
 use Rattle.isa.specs.declared.Instr.the-variants.{Nop}
 use Rattle.spelling.specs.Spellings.{formsOf}
 use Rattle.spelling.specs.declared.Places.{Places}
+use Rattle.slices.proofs.Lookup.{length-mapped}
 use Rattle.slices.proofs.Tables.{same-below}
 use Rattle.words.specs.internal.Storing.{storedIn}
 
@@ -66,10 +67,6 @@ module _ (p : Places) (to at : ℕ) where
 
 abbrev pub zeros : ℕ → List ℕ
 zeros n = replicate n 0
-
-length-mapped : (byte : Instr → ℕ) (is : List Instr) → length (mapped byte is) ≡ length is
-length-mapped byte [] = refl
-length-mapped byte (i ∷ is) = ap suc (length-mapped byte is)
 
 -- forms stored behind others, in zeros that have room for them
 stored-behind : (byte : Instr → ℕ) (is : List Instr) (front : List ℕ) (n : ℕ) → length is ≤ n

@@ -5,7 +5,7 @@ use native.Mathlib.Omega.{arith}
 use lib.ListN.{length}
 use Rattle.model.specs.State.{startState}
 use Rattle.run_numbers.specs.Runs.{stateOf}
-use Rattle.scheduling.proofs.Numbers.{place-read}
+use Rattle.slices.proofs.Lookup.{place-read}
 use borrow.Author.Needs.{needs}
 use Rattle.scheduling.proofs.places.state_at.Statement.{statement}
 use Rattle.scheduling.proofs.places.state_at.Tie as tie
