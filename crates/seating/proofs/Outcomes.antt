@@ -20,14 +20,13 @@ use Rattle.model.specs.State.{startState}
 use Rattle.model.specs.declared.Report.{Report}
 use Rattle.run_numbers.specs.Runs.{stateOf}
 use Rattle.rules.specs.Demand.{Bytes}
-use Rattle.seats.specs.Room.{Room, maxSeats, EightPlaces, bankAt, bankOf, seatOf, withSeat, aloneOf}
+use Rattle.seats.specs.Room.{Room, maxSeats, bankAt, bankOf, seatOf, withSeat, aloneOf}
 use Rattle.seats.specs.Turn.{TurnCall, turnCall, TurnOutcome, turnOutcome, turnFault, goesIn, seatAfter, firstFrom, nextSeat, ranOf, madeOf, turnBy, turnOf}
 use Rattle.seats.specs.declared.TurnAnswer.the-variants.{Refused, NoneCan}
 use Rattle.seats.proofs.FairTurns.{turn-made}
 use Rattle.seats.proofs.TurnCases.{Bounded, bounded, passed, fitting, FoundFits, found-fits}
 use Rattle.seats.specs.internal.Places.{Fitting}
 use Rattle.scheduling.specs.Numbers.{roomOf}
-use Rattle.scheduling.specs.internal.Places.{EightNumbers}
 use Rattle.scheduling.specs.internal.Search.{goesBy, seatOr}
 use Rattle.scheduling.specs.declared.SeatLengths.{SeatLengths}
 use Rattle.scheduling.specs.declared.SeatNumbers.{SeatNumbers}
@@ -97,14 +96,11 @@ module _ (n slice from : ℕ) (ops args keys ram stack rolls : List ℕ) (k : Se
   abbrev call : TurnCall
   call = turnCall n slice from
 
-  eight : EightNumbers (x .0) (x .1) → EightPlaces here
-  eight h = record { states = length-mapped stateOf (x .0) ∙ h .states-long; rollPositions = h .rollPositions-long }
-
   -- a turn with the outcome o
-  turned-as : (o : TurnOutcome) (r : TurnReport) (ram′ stack′ rolls′ : List ℕ) → turnOf call here ≡ o → EightNumbers (x .0) (x .1) → r .answer ≡ o .answer
+  turned-as : (o : TurnOutcome) (r : TurnReport) (ram′ stack′ rolls′ : List ℕ) → turnOf call here ≡ o → r .answer ≡ o .answer
       → r .seats ≡ numbersAfter (o .answer) x (o .room) → mapped stateOf (r .seats .0) ≡ o .room .states → r .seats .1 ≡ o .room .rollPositions
       → ram′ ≡ o .room .ram → stack′ ≡ o .room .stack → rolls′ ≡ o .room .rolls → TurnedAs call here x r ram′ stack′ rolls′
-  turned-as o r ram′ stack′ rolls′ e h answer numbers states positions ram-left stack-left rolls-left =
+  turned-as o r ram′ stack′ rolls′ e answer numbers states positions ram-left stack-left rolls-left =
       record {
         answer = answer ∙ ap (λ (z : TurnOutcome). z .answer) (sym e);
         numbers = numbers ∙ ap (λ (z : TurnOutcome). numbersAfter (z .answer) x (z .room)) (sym e);
@@ -113,42 +109,42 @@ module _ (n slice from : ℕ) (ops args keys ram stack rolls : List ℕ) (k : Se
         ram-left = ram-left ∙ ap (λ (z : TurnOutcome). z .room .ram) (sym e);
         stack-left = stack-left ∙ ap (λ (z : TurnOutcome). z .room .stack) (sym e);
         rolls-left = rolls-left ∙ ap (λ (z : TurnOutcome). z .room .rolls) (sym e);
-        eight = eight h;
       }
 
-  pub refused-as : (number : ℕ) (r : TurnReport) → (r ≡ record { answer = Refused number; seats = x }) × EightNumbers (x .0) (x .1)
+  pub refused-as : (number : ℕ) (r : TurnReport) → r ≡ record { answer = Refused number; seats = x }
       → number ≡ turnFault n slice here → number ≢ 0 → TurnedAs call here x r ram stack rolls
   unfolding turnOf
   refused-as number r e f h =
       let o : turnOf call here ≡ turnOutcome (Refused number) here = ap (λ (m : ℕ). turnBy m call here) (sym f) ∙ refused-is number call here h in
-      turned-as (turnOutcome (Refused number) here) r ram stack rolls o (e .1) (rw (e .0)) (rw (e .0)) (rw (e .0)) (rw (e .0)) refl refl refl
+      turned-as (turnOutcome (Refused number) here) r ram stack rolls o (rw e) (rw e) (rw e) (rw e) refl refl refl
 
-  pub none-as : (r : TurnReport) → (r ≡ record { answer = NoneCan; seats = x }) × EightNumbers (x .0) (x .1) → Accepted n slice here
+  pub none-as : (r : TurnReport) → r ≡ record { answer = NoneCan; seats = x } → Accepted n slice here
       → n ≡ seatOr n (nextSeat call here) → TurnedAs call here x r ram stack rolls
   none-as r e a f =
       let fits = found-fits (goesIn here) n n (from % n) (mod-lt from (a .bounds .some-seats)) in
       let z : nextSeat call here ≡ none = none-or n (goesIn here) (nextSeat call here) fits f in
       let o : turnOf call here ≡ turnOutcome NoneCan here = turn-made call here (a .no-fault) ∙ ap (madeOf call here) z in
-      turned-as (turnOutcome NoneCan here) r ram stack rolls o (e .1) (rw (e .0)) (rw (e .0)) (rw (e .0)) (rw (e .0)) refl refl refl
+      turned-as (turnOutcome NoneCan here) r ram stack rolls o (rw e) (rw e) (rw e) (rw e) refl refl refl
 
   pub ran-as : (i next : ℕ) (o : Report) (r : TurnReport) (ram′ stack′ rolls′ : List ℕ) → Accepted n slice here
       → i ≢ n → i ≡ seatOr n (nextSeat call here) → next ≡ seatAfter n i
-      → SeatRan here i slice o ram′ stack′ rolls′ → (r ≡ reportBy i next (o .answer) (o .state) (x .0) (x .1)) × EightNumbers (x .0) (x .1)
+      → (length (x .0) ≡ maxSeats) × SeatRan here i slice o ram′ stack′ rolls′ → r ≡ reportBy i next (o .answer) (o .state) x
       → TurnedAs call here x r ram′ stack′ rolls′
   unfolding ranOf withSeat
-  ran-as i next o r ram′ stack′ rolls′ a h f q s e =
+  ran-as i next o r ram′ stack′ rolls′ a h f q ran e =
+      let s = ran .1 in
       let d = aloneOf (seatOf here i) slice .machine .core in
       let z : nextSeat call here ≡ some i = some-or n i (nextSeat call here) h f in
       let b : i < n = below n slice from i here a h f in
-      let m : length (mapped stateOf (x .0)) ≡ maxSeats = eight (e .1) .states in
+      let m : length (mapped stateOf (x .0)) ≡ maxSeats = length-mapped stateOf (x .0) ∙ ran .0 in
       let p : getD (set (mapped stateOf (x .0)) i (d .state)) i startState ≡ d .state =
       getD-set-same (mapped stateOf (x .0)) i (d .state) startState (omega (arith, a .bounds .most-seats)) in
       let made : turnOf call here ≡ ranOf call here i = turn-made call here (a .no-fault) ∙ ap (madeOf call here) z in
-      turned-as (ranOf call here i) r ram′ stack′ rolls′ made (e .1)
-      (rw (e .0, s .answer, q))
-      (rw (e .0, s .answer, s .state, p))
-      (rw (e .0, s .answer, s .state) (state-put (x .0) i (d .state)))
-      (rw (e .0, s .answer))
+      turned-as (ranOf call here i) r ram′ stack′ rolls′ made
+      (rw (e, s .answer, q))
+      (rw (e, s .answer, s .state, p))
+      (rw (e, s .answer, s .state) (state-put (x .0) i (d .state)))
+      (rw (e, s .answer))
       (s .ram-left)
       (s .stack-left)
       (s .rolls-left)

@@ -7,7 +7,7 @@ use lib.ListN.{getD, set}
 use Rattle.slices.specs.Lists.{mapped}
 use Rattle.model.specs.State.{startState}
 use Rattle.run_numbers.specs.Runs.{stateOf, stateNumbers}
-use Rattle.seats.specs.Room.{Room, EightPlaces}
+use Rattle.seats.specs.Room.{Room}
 use Rattle.seats.specs.Turn.{TurnCall, turnOf}
 use Rattle.seats.specs.declared.TurnAnswer.{TurnAnswer}
 use Rattle.seats.specs.declared.TurnAnswer.the-variants.{Refused, NoneCan, Ran}
@@ -30,5 +30,3 @@ pub record TurnedAs (c : TurnCall) (w : Room) (x : SeatNumbers) (r : TurnReport)
   pub ram-left : ram ≡ turnOf c w .room .ram
   pub stack-left : stack ≡ turnOf c w .room .stack
   pub rolls-left : rolls ≡ turnOf c w .room .rolls
-  -- the arrays have a place for each of eight seats
-  pub eight : EightPlaces w

@@ -3,12 +3,10 @@
 use machine::run_steps;
 use model::Answer;
 use model::Report;
-use run_numbers::StateNumbers;
 use scheduling::SeatLengths;
 use scheduling::SeatNumbers;
 use scheduling::lengths::begin_of;
 use scheduling::places::seat_after;
-use scheduling::places::seats_of;
 use scheduling::places::state_at;
 use scheduling::places::with_seat;
 use scheduling::refusals::refusal;
@@ -17,11 +15,11 @@ use seats::TurnAnswer;
 use slices::BANK_SIZE;
 ghost use mathlib.Core.Path.{_≡_};
 ghost use Prim.Native.Nat.{_≤_, _<_};
+ghost use lib.ListN.{length};
 ghost use Rattle.seats.specs.Room.{maxSeats};
 ghost use Rattle.seats.specs.Turn.{turnCall, maxSlice, turnOf};
 ghost use Rattle.seats.specs.internal.Places.{SeatPlaces};
 ghost use Rattle.scheduling.specs.Numbers.{roomOf};
-ghost use Rattle.scheduling.specs.internal.Places.{EightNumbers};
 ghost use Rattle.seating.specs.Reports.{TurnedAs};
 ghost use Rattle.seating.specs.internal.SeatRuns.{SeatRan, reportBy};
 
@@ -46,7 +44,7 @@ fn run_seat(
 ) -> Report
     requires { ⌜ SeatPlaces (roomOf (now opcodes) (now arguments) (now keys) (now ram) (now stack) (now rolls) lengths seats) i ⌝ }
     requires { ⌜ (i < maxSeats) × (slice ≤ maxSlice) ⌝ }
-    ensures { λ r. ⌜ SeatRan (roomOf (now (opcodes .entry)) (now (arguments .entry)) (now (keys .entry)) (now (ram .entry)) (now (stack .entry)) (now (rolls .entry)) lengths seats) i slice r (now (ram .exit)) (now (stack .exit)) (now (rolls .exit)) ⌝ }
+    ensures { λ r. ⌜ (length (seats .0) ≡ maxSeats) × SeatRan (roomOf (now (opcodes .entry)) (now (arguments .entry)) (now (keys .entry)) (now (ram .entry)) (now (stack .entry)) (now (rolls .entry)) lengths seats) i slice r (now (ram .exit)) (now (stack .exit)) (now (rolls .exit)) ⌝ }
 {
     let bank = BANK_SIZE * i;
     let key_lengths = lengths.0;
@@ -70,34 +68,28 @@ fn run_seat(
 }
 
 // The report of a turn in which no seat ran: the seats are as they were.
-fn idle(answer: TurnAnswer, states: [StateNumbers; 8], positions: [usize; 8]) -> TurnReport
-    ensures { λ r. ⌜ (r ≡ record { answer = answer; seats = (states, positions) }) × EightNumbers states positions ⌝ }
+fn idle(answer: TurnAnswer, seats: SeatNumbers) -> TurnReport
+    ensures { λ r. ⌜ r ≡ record { answer = answer; seats = seats } ⌝ }
 {
     TurnReport {
         answer: answer,
-        seats: seats_of(states, positions),
+        seats: seats,
     }
 }
 
 // The report of a turn in which seat i ran. `run_steps` refuses nothing, so the first arm is never
 // reached.
-fn seat_report(
-    i: usize,
-    next: usize,
-    report: Report,
-    states: [StateNumbers; 8],
-    positions: [usize; 8],
-) -> TurnReport
+fn seat_report(i: usize, next: usize, report: Report, seats: SeatNumbers) -> TurnReport
     requires { ⌜ i < maxSeats ⌝ }
-    ensures { λ r. ⌜ (r ≡ reportBy i next (report .answer) (report .state) states positions) × EightNumbers states positions ⌝ }
+    ensures { λ r. ⌜ r ≡ reportBy i next (report .answer) (report .state) seats ⌝ }
 {
     let answer = report.answer;
     let reached = report.state;
     match answer {
-        Answer::Refused(_) => idle(TurnAnswer::NoneCan, states, positions),
+        Answer::Refused(_) => idle(TurnAnswer::NoneCan, seats),
         Answer::Ran(stop, steps, cycles, words) => TurnReport {
             answer: TurnAnswer::Ran(i, next, stop, steps, cycles),
-            seats: with_seat(states, positions, i, reached, words),
+            seats: with_seat(seats, i, reached, words),
         },
     }
 }
@@ -119,8 +111,6 @@ pub fn turn(
 ) -> TurnReport
     ensures { λ r. ⌜ TurnedAs (turnCall n slice from) (roomOf (now (opcodes .entry)) (now (arguments .entry)) (now (keys .entry)) (now (ram .entry)) (now (stack .entry)) (now (rolls .entry)) lengths seats) seats r (now (ram .exit)) (now (stack .exit)) (now (rolls .exit)) ⌝ }
 {
-    let states = seats.0;
-    let positions = seats.1;
     let number = refusal(
         n,
         slice,
@@ -134,11 +124,11 @@ pub fn turn(
         seats,
     );
     if number != 0 {
-        return idle(TurnAnswer::Refused(number), states, positions);
+        return idle(TurnAnswer::Refused(number), seats);
     }
     let i = next_seat(opcodes, lengths, n, from % n, seats);
     if i == n {
-        return idle(TurnAnswer::NoneCan, states, positions);
+        return idle(TurnAnswer::NoneCan, seats);
     }
     let next = seat_after(n, i);
     let report = run_seat(
@@ -153,5 +143,5 @@ pub fn turn(
         i,
         seats,
     );
-    seat_report(i, next, report, states, positions)
+    seat_report(i, next, report, seats)
 }

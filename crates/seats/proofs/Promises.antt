@@ -4,6 +4,7 @@ use mathlib.Core.Path.{_≡_, refl, sym, ap, subst, _∙_}
 use mathlib.Core.Bool.{false}
 use Prim.Native.Nat.{ℕ, zero, suc, _<_}
 use native.Mathlib.Omega.{arith}
+use lib.ListN.{length, length-set}
 use Rattle.slices.specs.Checks.{NoneBroken, FirstViolation}
 use Rattle.slices.proofs.Checks.{all-hold, first-violation}
 use Rattle.model.specs.Run.{reported, verdictAt, runOf}
@@ -14,7 +15,7 @@ use Rattle.model.proofs.Kept.{step-counts}
 use Rattle.model.proofs.Promises.{checks-pass, passed-call}
 use Rattle.model.proofs.Runs.{by-verdict, run-stops, run-goes, some-left}
 use Rattle.model.proofs.Traces.{run-steps}
-use Rattle.seats.specs.Room.{Room, Seat, seatOf, machineIn, aloneOf}
+use Rattle.seats.specs.Room.{Room, Seat, seatOf, withSeat, machineIn, aloneOf}
 use Rattle.seats.specs.RoomPromise.{Skips, callAt, AloneIsACall, RoomPromise}
 use Rattle.seats.specs.Turn.{TurnCall, TurnOutcome, turnChecks, turnFault, canGo, goesIn, seatAfter, ranOf, turnOf, turnNumber, ranSeat, TurnPromise}
 use Rattle.seats.specs.declared.TurnAnswer.the-variants.{NoneCan, Ran}
@@ -96,6 +97,15 @@ module _ (c : TurnCall) (w : Room) where
             (λ n i q. refl)
             (λ j r i q. ran-other c w j r i q);
       }
+
+-- a turn keeps the places of states and roll positions
+pub places-kept : (c : TurnCall) (w : Room) → (length (turnOf c w .room .states) ≡ length (w .states)) × (length (turnOf c w .room .rollPositions) ≡ length (w .rollPositions))
+unfolding ranOf withSeat
+places-kept c w =
+    turn-cases (λ (o : TurnOutcome). (length (o .room .states) ≡ length (w .states)) × (length (o .room .rollPositions) ≡ length (w .rollPositions))) c w
+    (λ k e. (refl, refl))
+    (λ n. (refl, refl))
+    (λ j r. (length-set (w .states) j _, length-set (w .rollPositions) j _))
 
 -- ---- turns one after another
 

@@ -1,16 +1,19 @@
 -- The report of a turn as numbers has all of its outcome.
 -- Assumes nothing.
-use mathlib.Core.Path.{_≡_, refl, ap, _∙_}
+use mathlib.Core.Path.{_≡_, refl, sym, ap, _∙_}
 use mathlib.Core.List.{List}
 use Prim.Native.Nat.{ℕ}
+use lib.ListN.{length}
 use Rattle.slices.specs.Lists.{mapped}
+use Rattle.slices.proofs.Lookup.{length-mapped}
 use Rattle.run_numbers.specs.Runs.{stateOf}
 use Rattle.seats.specs.Room.{Room}
 use Rattle.seats.specs.Turn.{TurnCall, turnOf}
 use Rattle.seats.specs.declared.TurnAnswer.{TurnAnswer}
 use Rattle.seats.specs.declared.TurnAnswer.the-variants.{Refused, NoneCan, Ran}
-use Rattle.seats.proofs.Promises.{turn-promise, room-promise}
+use Rattle.seats.proofs.Promises.{turn-promise, places-kept, room-promise}
 use Rattle.scheduling.specs.declared.SeatNumbers.{SeatNumbers}
+use Rattle.scheduling.specs.internal.Places.{EightNumbers}
 use Rattle.seating.specs.Reports.{numbersAfter, TurnedAs}
 use Rattle.seating.specs.declared.TurnReport.{TurnReport}
 use Rattle.turns.specs.Exported.{turnNumbers, TurnNumbered}
@@ -22,8 +25,10 @@ seats-in NoneCan x = refl
 seats-in (Ran i next y steps cycles) x = refl
 
 pub numbered : (c : TurnCall) (w : Room) (x : SeatNumbers) (a : TurnReport) (r : TurnNumbers) (ram stack rolls : List ℕ)
-    → TurnedAs c w x a ram stack rolls → r ≡ turnNumbers (a .answer) (a .seats) → TurnNumbered c w x r ram stack rolls
-numbered c w x a r ram stack rolls t e =
+    → TurnedAs c w x a ram stack rolls → (r ≡ turnNumbers (a .answer) (a .seats)) × EightNumbers (a .seats .0) (a .seats .1) → TurnNumbered c w x r ram stack rolls
+numbered c w x a r ram stack rolls t h =
+    let e = h .0 in
+    let k = places-kept c w in
     let s : r .7 ≡ a .seats = ap (λ (y : TurnNumbers). y .7) e ∙ seats-in (a .answer) (a .seats) in
     record {
       report = e ∙ ap (turnNumbers (a .answer)) (t .numbers) ∙ ap (λ (y : TurnAnswer). turnNumbers y (numbersAfter (turnOf c w .answer) x (turnOf c w .room))) (t .answer);
@@ -33,6 +38,10 @@ numbered c w x a r ram stack rolls t e =
       stack-left = t .stack-left;
       rolls-left = t .rolls-left;
       promise = turn-promise c w;
-      eight = t .eight;
+      eight =
+          record {
+            states = sym (k .0) ∙ ap length (sym (t .states)) ∙ length-mapped stateOf (a .seats .0) ∙ h .1 .states-long;
+            rollPositions = sym (k .1) ∙ ap length (sym (t .rollPositions)) ∙ h .1 .rollPositions-long;
+          };
       turns = room-promise;
     }

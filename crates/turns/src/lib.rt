@@ -1,12 +1,15 @@
 // The export for turns, in an archive apart from the other exports: decoding and the ALU then have one
 // caller, and are inlined into the run's loop.
+use run_numbers::StateNumbers;
 use run_numbers::stop_number;
 use scheduling::SeatLengths;
 use scheduling::SeatNumbers;
+use scheduling::places::seats_of;
 use seats::TurnAnswer;
 ghost use mathlib.Core.Path.{_≡_};
 ghost use Rattle.seats.specs.Turn.{turnCall};
 ghost use Rattle.scheduling.specs.Numbers.{roomOf};
+ghost use Rattle.scheduling.specs.internal.Places.{EightNumbers};
 ghost use Rattle.turns.specs.Exported.{turnNumbers, TurnNumbered};
 
 // A turn's report: number, whether a seat ran, its stop, steps and cycles, that seat, the seat after
@@ -24,9 +27,10 @@ pub struct TurnNumbers(
 );
 
 // The numbers of a turn's report.
-fn turn_numbers(answer: TurnAnswer, seats: SeatNumbers) -> TurnNumbers
-    ensures { λ r. ⌜ r ≡ turnNumbers answer seats ⌝ }
+fn turn_numbers(answer: TurnAnswer, states: [StateNumbers; 8], positions: [usize; 8]) -> TurnNumbers
+    ensures { λ r. ⌜ (r ≡ turnNumbers answer (states, positions)) × EightNumbers states positions ⌝ }
 {
+    let seats = seats_of(states, positions);
     match answer {
         TurnAnswer::Refused(number) => TurnNumbers(number, false, 0, 0, 0, 0, 0, seats),
         TurnAnswer::NoneCan => TurnNumbers(0, false, 0, 0, 0, 0, 0, seats),
@@ -68,5 +72,7 @@ pub extern "C" fn cesca_turn(
     );
     let answer = report.answer;
     let after = report.seats;
-    turn_numbers(answer, after)
+    let states = after.0;
+    let positions = after.1;
+    turn_numbers(answer, states, positions)
 }

@@ -11,10 +11,10 @@ use Rattle.seats.specs.Room.{maxSeats}
 use Rattle.scheduling.specs.declared.SeatNumbers.{SeatNumbers}
 
 -- a state and a roll position put at seat i
-abbrev pub withNumbers : List StateNumbers → (rollPositions : List ℕ) → ℕ → State → ℕ → SeatNumbers
-withNumbers states rollPositions i s words = (set states i (stateNumbers s), set rollPositions i words)
+abbrev pub withNumbers : SeatNumbers → ℕ → State → ℕ → SeatNumbers
+withNumbers x i s words = (set (x .0) i (stateNumbers s), set (x .1) i words)
 
--- both arrays have eight places, which only a function that takes them by themselves can tell
+-- both arrays have eight places
 pub record EightNumbers (states : List StateNumbers) (rollPositions : List ℕ) : Type 0 where
   pub states-long : length states ≡ maxSeats
   pub rollPositions-long : length rollPositions ≡ maxSeats

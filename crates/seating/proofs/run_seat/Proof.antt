@@ -97,7 +97,7 @@ returns c =
     let eb : 256 * a .i + 256 - 256 * a .i ≡ 256 = omega arith in
     let ek : k + lengthAt (a .lengths .0) (a .i) - k ≡ lengthAt (a .lengths .0) (a .i) = omega arith in
     let el : l + lengthAt (a .lengths .1) (a .i) - l ≡ lengthAt (a .lengths .1) (a .i) = omega arith in
-    seat-ran w (a .i) (a .slice) _ _ _ _ _ _ _ _ _ _ eb ek el (worded (stated s) .begin-of .ensures) (stated s .begin-of2 .ensures) (s .state-at .ensures) (c .before .before .before .before .before .before .run-steps .ensures)
+    (s .state-at .ensures .1, seat-ran w (a .i) (a .slice) _ _ _ _ _ _ _ _ _ _ eb ek el (worded (stated s) .begin-of .ensures) (stated s .begin-of2 .ensures) (s .state-at .ensures .0) (c .before .before .before .before .before .before .run-steps .ensures))
 
 pub run-seat-spec : {M : Type 1} → statement M
 run-seat-spec =

@@ -12,5 +12,5 @@ seat-report-spec =
     (λ c κs. search needs)
     (λ c. search needs)
     (λ c κs. search needs)
-    (λ c. (rw (c .idle .ensures .0, c .before .enum-told .given .1), c .idle .ensures .1))
-    (λ c. (rw (c .with-seat .ensures .0, c .before .before .answer .given .1), c .with-seat .ensures .1)))
+    (λ c. rw (c .idle .ensures, c .before .enum-told .given .1))
+    (λ c. rw (c .with-seat .ensures, c .before .before .answer .given .1)))

@@ -19,7 +19,7 @@ use Rattle.seating.proofs.turn.Tie as tie
 
 -- where the rules are judged, and back from there: the entry
 abbrev entry : tie.After-refusal → tie.Start
-entry c = c .before .before .before .before .before .before .before .before .before .before .before .before
+entry c = c .before .before .before .before .before .before .before .before .before .before
 
 -- where the seat is found, and back from there: the rules
 abbrev judged : tie.After-next-seat → tie.After-refusal
@@ -46,7 +46,7 @@ found-is : (c : tie.After-next-seat)
 found-is c =
     let e = entry (judged c) in
     c .next-seat .ensures
-    ∙ ap (seatOr (e .args .n)) (sought (e .args .n) (e .args .slice) (e .args .from) (roomIn e) (kept (judged c) (c .before .if1 .left)) (λ i. judged c .before .before .before .before .before .before .before .before .before .before .before .shared-slice-known .given i .fits))
+    ∙ ap (seatOr (e .args .n)) (sought (e .args .n) (e .args .slice) (e .args .from) (roomIn e) (kept (judged c) (c .before .if1 .left)) (λ i. judged c .before .before .before .before .before .before .before .before .before .shared-slice-known .given i .fits))
 
 -- ---- the answers
 

@@ -8,9 +8,9 @@ use Rattle.model.specs.declared.Answer.{Answer}
 use Rattle.model.specs.declared.Answer.the-variants as run
 use Rattle.model.specs.declared.Report.{Report}
 use Rattle.model.specs.declared.State.{State}
-use Rattle.run_numbers.specs.declared.StateNumbers.{StateNumbers}
 use Rattle.seats.specs.Room.{Room, seatOf, withSeat, aloneOf, seatAt}
 use Rattle.seats.specs.declared.TurnAnswer.the-variants.{NoneCan, Ran}
+use Rattle.scheduling.specs.declared.SeatNumbers.{SeatNumbers}
 use Rattle.scheduling.specs.internal.Places.{withNumbers}
 use Rattle.seating.specs.declared.TurnReport.{TurnReport}
 
@@ -32,7 +32,6 @@ pub record SeatRan (w : Room) (i slice : ℕ) (r : Report) (ram stack rolls : Li
   pub rolls-left : rolls ≡ leftAt w i slice .rolls
 
 -- the report of a turn in which seat i ran; a seat's run is never refused
-abbrev pub reportBy : (i next : ℕ) → Answer → State → List StateNumbers → (rollPositions : List ℕ) → TurnReport
-reportBy i next (run.Refused e) s states rollPositions = record { answer = NoneCan; seats = (states, rollPositions) }
-reportBy i next (run.Ran y steps cycles words) s states rollPositions =
-    record { answer = Ran i next y steps cycles; seats = withNumbers states rollPositions i s words }
+abbrev pub reportBy : (i next : ℕ) → Answer → State → SeatNumbers → TurnReport
+reportBy i next (run.Refused e) s x = record { answer = NoneCan; seats = x }
+reportBy i next (run.Ran y steps cycles words) s x = record { answer = Ran i next y steps cycles; seats = withNumbers x i s words }

@@ -14,4 +14,4 @@ cesca-turn-spec =
     (λ c. search needs)
     (λ c. search needs)
     (λ c. search needs)
-    (λ c. numbered _ _ _ _ _ _ _ _ (c .before .before .before .before .before .before .before .before .turn .ensures) (c .turn-numbers .ensures)))
+    (λ c. numbered _ _ _ _ _ _ _ _ (c .before .before .before .before .before .before .before .before .before .before .turn .ensures) (c .turn-numbers .ensures)))

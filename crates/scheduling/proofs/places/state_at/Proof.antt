@@ -20,4 +20,4 @@ state-at-spec =
     (λ c.
     let a = c .before .before .args in
     let h : length (a .t1) ≡ 8 = omega (arith, c .before .before .good .0) in
-    c .state-of .ensures ∙ place-read stateOf (a .t1) (a .i) _ startState (omega (arith, c .before .before .pre))))
+    (c .state-of .ensures ∙ place-read stateOf (a .t1) (a .i) _ startState (omega (arith, c .before .before .pre)), h)))

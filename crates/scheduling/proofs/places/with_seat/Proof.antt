@@ -1,6 +1,5 @@
--- Field by field; the arrays are taken by themselves, so their lengths are known.
+-- Field by field.
 -- Assumes nothing.
-use native.Mathlib.Omega.{arith}
 use borrow.Author.Needs.{needs}
 use Rattle.scheduling.proofs.places.with_seat.Statement.{statement}
 use Rattle.scheduling.proofs.places.with_seat.Tie as tie
@@ -14,6 +13,4 @@ with-seat-spec =
     (λ c. search needs)
     (λ c. search needs)
     (λ c. search needs)
-    (λ c.
-    let e = c .before in
-    (rw (c .state-numbers .ensures), record { states-long = omega (arith, e .good .0); rollPositions-long = omega (arith, e .good .1 .0) })))
+    (λ c. rw (c .before .before .state-numbers .ensures)))

@@ -41,7 +41,7 @@ answered c =
     let a = entry (tested (stated c) .before) .args in
     let i = tested (stated c) .before .loop .i in
     let b : 256 * i + 256 - 256 * i ≡ 256 = omega arith in
-    goes-told (a .opcodes .now) (a .lengths .1) (mapped stateOf (a .seats .0)) (a .seats .1) i _ _ _ _ b (stated c .state-at .ensures) (c .before .load .ensures) (c .can-go .ensures)
+    goes-told (a .opcodes .now) (a .lengths .1) (mapped stateOf (a .seats .0)) (a .seats .1) i _ _ _ _ b (stated c .state-at .ensures .0) (c .before .load .ensures) (c .can-go .ensures)
 
 fits : tie.Need-part-load-end Inv-loop μ-loop
 fits c =
