@@ -39,6 +39,40 @@ fn functions_past_the_last_are_rol() {
     }
 }
 
+/// Function 1111 of Ra's byte, Rb's byte and the carry flag before.
+type Rol = fn(u8, u8, bool) -> AluAnswer;
+
+/// Who computes it, by name.
+const ROLS: [(&str, Rol); 2] = [
+    ("the library", |x, y, c| alu(15, x, y, c)),
+    ("the reference", |x, y, c| reference::alu(Function::Rol, x, y, c)),
+];
+
+/// The byte after rols in a row; bit k of `flags` is the carry flag behind k of them, and Rb's byte
+/// changes too.
+fn rolled(rol: Rol, byte: u8, flags: u8, rols: u32) -> u8 {
+    (0..rols).fold(byte, |byte, k| rol(byte, flags.rotate_left(k), flags >> k & 1 == 1).value)
+}
+
+#[test]
+fn eight_rols_in_a_row_give_every_byte_back_whatever_the_carry() {
+    for (name, rol) in ROLS {
+        for (byte, flags, _) in operands() {
+            assert_eq!(rolled(rol, byte, flags, 8), byte, "{name}, C {flags:08b}");
+        }
+    }
+}
+
+#[test]
+fn fewer_rols_turn_a_byte_by_as_many_places() {
+    for (name, rol) in ROLS {
+        for (byte, rols) in (0..=255u8).flat_map(|byte| (0..8).map(move |rols| (byte, rols))) {
+            let found = rolled(rol, byte, byte, rols);
+            assert_eq!(found, byte.rotate_left(rols), "{name}, {rols} of {byte}");
+        }
+    }
+}
+
 /// Checks a marked row; `set` names the flags that are set, in the order Z, C, S.
 fn check(function: Function, x: u8, y: u8, carry: bool, value: u8, set: &str, v: Overflow) {
     let [z, c, s] = ['Z', 'C', 'S'].map(|flag| set.contains(flag));

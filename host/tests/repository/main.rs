@@ -19,5 +19,6 @@ mod placeholders;
 mod promises;
 mod running;
 mod rust;
+mod shifts;
 mod source;
 mod table;

@@ -12,6 +12,7 @@ mod moves;
 mod random;
 mod refusals;
 mod runs;
+mod shifts;
 mod stack;
 mod stops;
 mod tally;

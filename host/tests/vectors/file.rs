@@ -1,7 +1,7 @@
 //! A file of cases, and which check each of them goes to.
 
 use crate::blocks::{blocks, Block};
-use crate::{admit, busy, draw, run, source, turns};
+use crate::{admit, busy, draw, run, shifts, source, turns};
 
 /// Whether a case holds, or what is wrong.
 pub type Outcome = Result<(), String>;
@@ -23,7 +23,7 @@ const CALLS: [(&str, OfBlock); 6] = [
 ];
 
 /// The files in which each line is a case, by the beginning of their names, with its check.
-const LINES: [(&str, OfLine); 1] = [("words", source::word)];
+const LINES: [(&str, OfLine); 2] = [("words", source::word), ("shifts", shifts::shift)];
 
 /// The outcomes of a file's cases, or of the file itself where it has none and should have.
 pub fn outcomes(name: &str, text: &str) -> Vec<Outcome> {
@@ -64,7 +64,7 @@ fn plain_or_busy(block: &Block) -> Outcome {
 }
 
 /// The lines that aren't empty and no comments.
-fn lines(text: &str) -> impl Iterator<Item = &str> {
+pub fn lines(text: &str) -> impl Iterator<Item = &str> {
     text.lines().filter(|line| !line.is_empty() && !line.starts_with('#'))
 }
 

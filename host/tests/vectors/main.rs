@@ -26,6 +26,7 @@ mod runners;
 #[allow(dead_code)]
 #[path = "../draw/buffers.rs"]
 mod sheets;
+mod shifts;
 #[path = "../source/sides.rs"]
 mod sides;
 mod source;
@@ -40,7 +41,7 @@ mod values;
 use stored::{names, path, text};
 
 /// The folders that must be there; any other that lies beside them is run too.
-const FOLDERS: [&str; 5] = ["01-text", "02-drawn", "03-busy", "04-mov-v", "05-seats"];
+const FOLDERS: [&str; 6] = ["01-text", "02-drawn", "03-busy", "04-mov-v", "05-seats", "06-shifts"];
 
 /// The folders of cases that lie here.
 fn folders() -> Vec<String> {
