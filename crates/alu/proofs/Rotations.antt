@@ -1,5 +1,5 @@
--- Rols in a row: a byte is doubled each time and the bit that goes out brought round, whatever Rb's byte and the carry flag are. So one test, computed
--- over the 256 bytes, tells whether n of them give every byte back.
+-- Rols in a row: a byte is doubled each time and the bit that goes out brought round, whatever Rb's byte and the carry flag are. One test,
+-- computed over the 256 bytes, shows that n of them give every byte back.
 -- Assumes nothing.
 use mathlib.Core.Path.{_≡_, refl, ap, _∙_}
 use mathlib.Core.Bool.{Bool, true}

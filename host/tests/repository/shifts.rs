@@ -1,24 +1,36 @@
-//! The class's page of shifts: its functions stand in the code, and its worked bytes are right.
+//! The class's page of shifts: its functions stand in the code, and keep to the form that 02 asks
+//! for.
+
+mod worked;
 
 use crate::finding::{expect_none, messages, Finding};
 use crate::source::{read, Source};
-use crate::table::{rows, Row};
 
-/// The page, and the code that it shows.
-const FILES: [&str; 2] = ["docs/SHIFTS.md", "crates/alu/src/lib.rt"];
+/// The page.
+const PAGE: &str = "docs/SHIFTS.md";
+
+/// The code that it shows.
+const CODE: &str = "crates/alu/src/lib.rt";
 
 /// What begins and ends a block of code on the page.
 const FENCES: [&str; 2] = ["```rattle\n", "```\n"];
 
-/// The shifts, with their ALU functions and the functions of the code.
-const SHIFTS: [(&str, u8, &str); 4] = [
-    ("sll", 12, "shift_left"),
-    ("srl", 13, "shift_right"),
-    ("sra", 14, "shift_right_signed"),
-    ("rol", 15, "rotate_left"),
+/// The functions that form results and carry.
+const FUNCTIONS: [&str; 6] =
+    ["carry_out", "shifted_left", "shift_left", "shift_right", "shift_right_signed", "rotate_left"];
+
+/// The arms of the ALU's table that call them, as they stand in the code.
+const ARMS: [&str; 4] = [
+    "12 => shifted_left(x, shift_left(x)),",
+    "13 => plain(shift_right(x)),",
+    "14 => plain(shift_right_signed(x)),",
+    "_ => shifted_left(x, rotate_left(x)),",
 ];
 
-/// The blocks of code on a page, each with the line before it.
+/// What their code does without: masks, shift operators, loops.
+const WITHOUT: [&str; 9] = ["&", "|", "^", "!", "<<", ">>", "for ", "while ", "loop "];
+
+/// The blocks of code on a page, each with the line of its fence.
 fn blocks(page: &str) -> Vec<(usize, &str)> {
     let [open, close] = FENCES;
     let starts = page.match_indices(open).map(|(at, _)| at);
@@ -29,109 +41,58 @@ fn blocks(page: &str) -> Vec<(usize, &str)> {
     blocks.collect()
 }
 
-/// What a page shows that isn't in the code, and which shift it doesn't show.
-fn not_shown(page: &Source, code: &str) -> Vec<Finding> {
+/// Whether the code of a block, without comments and contracts, has one of the things that it
+/// should do without.
+fn strays(block: &str) -> bool {
+    let told = |line: &&str| ["//", "ensures"].iter().any(|start| line.trim().starts_with(start));
+    let mut code = block.lines().filter(|line| !told(line));
+    code.any(|line| WITHOUT.iter().any(|token| line.contains(token)))
+}
+
+/// What is wrong with the blocks of a page: other code, another form, a function that isn't shown.
+fn block_findings(page: &Source, code: &str) -> Vec<Finding> {
     let blocks = blocks(&page.text);
-    let strange = blocks.iter().filter(|(_, block)| !code.contains(&format!("\n{block}\n")));
-    let strange = strange.map(|(line, _)| (*line, "this isn't in the code".to_string()));
-    let missing = SHIFTS.iter().filter(|(.., function)| {
-        !blocks.iter().any(|(_, block)| block.contains(&format!("\nfn {function}(")))
-    });
-    let missing = missing.map(|(.., function)| (1, format!("{function} isn't shown")));
-    strange.chain(missing).map(|(line, what)| Finding::new(&page.file, line, what)).collect()
-}
-
-/// A row's cell below a heading.
-fn cell<'a>(row: &Row<'a>, heading: &str) -> Option<&'a str> {
-    row.cells.iter().find(|cell| cell.heading == heading).map(|cell| cell.text)
-}
-
-/// A row's number, unless its bits are shown and are others.
-fn number(row: &Row<'_>, heading: &str, bits: &str) -> Option<u8> {
-    let number: u8 = cell(row, heading)?.parse().ok()?;
-    let shown = cell(row, bits).map(|bits| bits.replace(' ', ""));
-    shown.is_none_or(|shown| shown == format!("{number:08b}")).then_some(number)
-}
-
-/// A shift worked out on a page.
-struct Worked {
-    function: u8,
-    byte: u8,
-    result: u8,
-    carry: bool,
-}
-
-/// What a row works out, if it can be read.
-fn worked(row: &Row<'_>) -> Option<Worked> {
-    let name = cell(row, "function")?;
-    let (_, function, _) = SHIFTS.into_iter().find(|(shift, ..)| *shift == name)?;
-    let byte = number(row, "byte", "in bits")?;
-    let result = number(row, "result", "in bits then")?;
-    let carry = ["0", "1"].iter().position(|digit| Some(*digit) == cell(row, "C"))? == 1;
-    Some(Worked { function, byte, result, carry })
-}
-
-/// The rows of a page that work something out.
-fn worked_rows(page: &str) -> Vec<Row<'_>> {
-    rows(page).into_iter().filter(|row| cell(row, "function").is_some()).collect()
-}
-
-/// Whether a row is what the library gives.
-fn is_right(row: &Row<'_>) -> bool {
-    worked(row).is_some_and(|worked| {
-        let found = cesca::alu(worked.function, worked.byte, 0, !worked.carry);
-        (found.value, found.c) == (worked.result, worked.carry)
-    })
-}
-
-/// The worked rows of a page that aren't right.
-fn wrong(page: &Source) -> Vec<Finding> {
-    let wrong = worked_rows(&page.text).into_iter().filter(|row| !is_right(row));
-    wrong.map(|row| Finding::new(&page.file, row.line, "this is worked wrongly")).collect()
+    let of_block = |(line, block): &(usize, &str)| {
+        let other = !code.contains(&format!("\n{block}\n"));
+        let wrong = [(other, "this isn't in the code"), (strays(block), "this is another form")];
+        wrong.map(|(holds, what)| holds.then(|| (*line, what.to_string())))
+    };
+    let shown = |function: &&str| {
+        blocks.iter().any(|(_, block)| block.contains(&format!("\nfn {function}(")))
+    };
+    let missing = FUNCTIONS.iter().filter(|function| !shown(function));
+    let missing = missing.map(|function| (1, format!("{function} isn't shown")));
+    let wrong = blocks.iter().flat_map(of_block).flatten().chain(missing);
+    wrong.map(|(line, what)| Finding::new(&page.file, line, what)).collect()
 }
 
 #[test]
 fn the_page_shows_the_code() {
-    let [page, code] = FILES.map(read);
-    expect_none(not_shown(&page, &code.text));
-    assert!(blocks(&page.text).iter().all(|(_, block)| block.starts_with("// ")));
-}
-
-#[test]
-fn the_worked_bytes_are_right() {
-    let page = read(FILES[0]);
-    expect_none(wrong(&page));
-    let rows = worked_rows(&page.text);
-    for (name, ..) in SHIFTS {
-        let of_shift = rows.iter().filter(|row| cell(row, "function") == Some(name));
-        assert!(of_shift.count() >= 2, "{name}");
+    let [page, code] = [PAGE, CODE].map(read);
+    expect_none(block_findings(&page, &code.text));
+    for arm in ARMS {
+        assert!(code.text.contains(&format!("\n        {arm}\n")), "{arm}");
     }
 }
 
+/// A page with a block of code.
+fn page(block: &str) -> Source {
+    Source::new("P.md", &format!("one\n\n```rattle\n{block}```\n"))
+}
+
 #[test]
-fn other_code_and_wrong_bytes_are_found() {
-    let code = "// a\nfn other() {}\n\n// sll\nfn shift_left(x: u8) -> u8\n{\n    x\n}\n\nend\n";
-    let shown = "// sll\nfn shift_left(x: u8) -> u8\n{\n    x\n}\n";
-    let page = |block: &str| Source::new("P.md", &format!("one\n\n```rattle\n{block}```\n"));
-    let missing = ["shift_right", "shift_right_signed", "rotate_left"];
-    let missing = missing.map(|function| format!("P.md:1: {function} isn't shown"));
-    assert_eq!(messages(not_shown(&page(shown), code)), missing);
-    let strange = messages(not_shown(&page(&shown.replace("    x", "    y")), code));
-    assert_eq!(strange[0], "P.md:3: this isn't in the code");
-    let row = |row: &str| {
-        let head = "| function | byte | in bits | result | C |\n|---|---|---|---|---|\n";
-        messages(wrong(&Source::new("P.md", &format!("{head}{row}\n"))))
-    };
-    assert_eq!(row("| sll | 200 | 1100 1000 | 144 | 1 |"), [""; 0]);
-    for bad in [
-        "| sll | 200 | 1100 1000 | 144 | 0 |",
-        "| sll | 200 | 1100 1000 | 145 | 1 |",
-        "| sll | 200 | 1100 1001 | 144 | 1 |",
-        "| rol | 200 | 1100 1000 | 144 | 1 |",
-        "| ror | 200 | 1100 1000 | 144 | 1 |",
-        "| sll | 200 | 1100 1000 | 144 | 2 |",
-        "| sll | 456 | 1100 1000 | 144 | 1 |",
-    ] {
-        assert_eq!(row(bad), ["P.md:3: this is worked wrongly"], "{bad}");
+fn other_code_and_another_form_are_found() {
+    let block = "// sll, not <<\nfn shift_left(x: u8) -> u8\n{\n    x * 2\n}\n";
+    let code = |block: &str| format!("// a\nfn other() {{}}\n\n{block}\nend\n");
+    let missing = FUNCTIONS.into_iter().filter(|function| *function != "shift_left");
+    let missing: Vec<String> =
+        missing.map(|function| format!("P.md:1: {function} isn't shown")).collect();
+    assert_eq!(messages(block_findings(&page(block), &code(block))), missing);
+    let other = messages(block_findings(&page(block), &code(&block.replace("* 2", "* 3"))));
+    assert_eq!(other[0], "P.md:3: this isn't in the code");
+    for body in ["x << 1", "x & 127", "(x % 128) | x", "!x", "while x < 8 {}"] {
+        let block = block.replace("x * 2", body);
+        let found = messages(block_findings(&page(&block), &code(&block)));
+        assert_eq!(found[0], "P.md:3: this is another form", "{body}");
     }
 }

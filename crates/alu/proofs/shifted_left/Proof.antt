@@ -1,4 +1,4 @@
--- The bit that goes out is the carry.
+-- The flags of the result, with x's carry.
 -- Assumes nothing.
 use mathlib.Core.Path.{ap, _∙_}
 use mathlib.Core.Bool.{Bool}
@@ -14,4 +14,4 @@ shifted-left-spec =
     (tie.spec
     (λ c κs. search needs)
     (λ c κs. search needs)
-    (λ c. c .with-flags .ensures ∙ ap (λ (g : Bool). computedOf (c .before .before .args .n) g Unsettled) (c .before .goes-out .ensures)))
+    (λ c. c .with-flags .ensures ∙ ap (λ (g : Bool). computedOf (c .before .before .args .n) g Unsettled) (c .before .carry-out .ensures)))
