@@ -1,7 +1,7 @@
 //! Shifts: the lines of request 6, each a function of a byte.
 
 use crate::file::Outcome;
-use crate::values::number;
+use crate::values::{flag, number};
 use cesca::{AluAnswer, Overflow};
 use reference::Function;
 
@@ -53,15 +53,6 @@ fn read(line: &str) -> Result<Shift, String> {
 /// The words of a text.
 fn words(text: &str) -> Vec<&str> {
     text.split(' ').collect()
-}
-
-/// The flag that is 0 or 1.
-fn flag(digit: &str) -> Result<bool, String> {
-    match digit {
-        "0" => Ok(false),
-        "1" => Ok(true),
-        _ => Err(format!("{digit:?} is no flag")),
-    }
 }
 
 #[cfg(test)]

@@ -91,7 +91,7 @@ pub fn state(value: &str) -> Result<State, String> {
 }
 
 /// Whether a flag is 1.
-fn flag(value: &str) -> Result<bool, String> {
+pub fn flag(value: &str) -> Result<bool, String> {
     match value {
         "0" => Ok(false),
         "1" => Ok(true),
