@@ -1,10 +1,8 @@
 -- The flags of the result, with x's carry.
 -- Assumes nothing.
-use mathlib.Core.Path.{ap, _∙_}
-use mathlib.Core.Bool.{Bool}
+use mathlib.Core.Path.{refl, _∙_}
 use borrow.Author.Needs.{needs}
-use Rattle.alu.specs.Alu.{computedOf}
-use Rattle.alu.specs.declared.Overflow.the-variants.{Unsettled}
+use Rattle.alu.proofs.Wraps.{same-computed}
 use Rattle.alu.proofs.shifted_left.Statement.{statement}
 use Rattle.alu.proofs.shifted_left.Tie as tie
 
@@ -14,4 +12,4 @@ shifted-left-spec =
     (tie.spec
     (λ c κs. search needs)
     (λ c κs. search needs)
-    (λ c. c .with-flags .ensures ∙ ap (λ (g : Bool). computedOf (c .before .before .args .n) g Unsettled) (c .before .carry-out .ensures)))
+    (λ c. c .with-flags .ensures ∙ same-computed refl (c .before .carry-out .ensures) refl))
