@@ -1,4 +1,6 @@
 // The rules 8 to 16 at an address.
+#![tactic(auto)]
+
 ghost use Rattle.std.specs.Prelude.{◌≡◌, ◌-◌, ◌*◌, ◌/◌, false, ◌&&◌, [], length, ◌==◌, nat_lt, slice_index};
 ghost use Rattle.isa.specs.declared.Class.TheVariants.{Next, Branch, Call};
 ghost use Rattle.isa.specs.declared.OverflowEffect.TheVariants.{Keeps};

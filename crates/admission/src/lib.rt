@@ -1,4 +1,6 @@
 // The admission of listings: banks, stack sheet and routine list against 01's grounds 1 to 16.
+#![tactic(auto)]
+
 mod scans;
 
 ghost use Rattle.rules.specs.Sheet.{listing};

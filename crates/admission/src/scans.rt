@@ -13,7 +13,7 @@ use sheets::sizes::listing_sizes;
 use slices::BANK_SIZE;
 
 // The rules that are judged at one place after another: 4, 5, 7, and 8 to 16.
-#[derive(Drop)]
+#[derive(Clone, Copy)]
 enum Stage {
     Blanks,
     Routines,

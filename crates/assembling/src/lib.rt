@@ -1,4 +1,6 @@
 // A text assembled into two lent banks.
+#![tactic(auto)]
+
 ghost use Rattle.std.specs.Prelude.{◌≡◌, length};
 ghost use Rattle.spelling.specs.internal.Rows.{table_bytes};
 ghost use Rattle.labels.specs.internal.Search.{NewIndex};
@@ -9,7 +11,7 @@ use slices::BANK_SIZE;
 
 // An answer: 0, 0 and the number of words; or the number of a refusal, its line or 0, and 0.
 #[repr(C)]
-#[derive(Drop)]
+#[derive(Clone, Copy)]
 pub struct Assembled(pub u8, pub usize, pub usize);
 
 // The answer to a text for good banks. The addresses of its lines and the index of its labels go into lent

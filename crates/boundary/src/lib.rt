@@ -1,4 +1,6 @@
 // The functions for single instructions that a host calls, on numbers and slices.
+#![tactic(auto)]
+
 ghost use Rattle.std.specs.Prelude.{◌≡◌};
 ghost use Rattle.numbers.specs.Numbers.{instr_of, fact_numbers_of};
 ghost use Rattle.boundary.specs.Exports.{Decoded, EncodedAs, PutNumber, ComputedAs};

@@ -1,6 +1,8 @@
 // Conditional jumps. Each has one of four outcomes, which meet in one function: compiled, the eight
 // jumps that don't ask for V are then branches, which the CPU foresees. A test in each arm would
 // be a choice between two values of PC, for which the next fetch has to wait.
+#![tactic(auto)]
+
 ghost use Rattle.std.specs.Prelude.{◌≡◌};
 ghost use Rattle.isa.specs.Facts.{class_of};
 ghost use Rattle.model.specs.Plan.{value_of};
@@ -14,7 +16,7 @@ use model::State;
 
 // PC stays at the next word or goes to an address: `Next` and `Jump` where V isn't asked,
 // `TestedNext` and `TestedJump` where it is.
-#[derive(Drop)]
+#[derive(Clone, Copy)]
 pub enum BranchOutcome {
     Next,
     TestedNext,

@@ -1,5 +1,7 @@
 // The export for busy runs, in an archive apart from the other exports: the step has one caller, as in
 // `runs`, and is inlined into the observed loop.
+#![tactic(auto)]
+
 ghost use Rattle.std.specs.Prelude.{◌≡◌, ◌≤◌, length, replicate};
 ghost use Rattle.slices.specs.Sizes.{bank_size};
 ghost use Rattle.model.specs.Run.{call, outcome, max_budget};
@@ -13,7 +15,7 @@ use ranking::ADDRESSES;
 use run_numbers::{RunNumbers, StateNumbers};
 
 // A busy run's answer and state, and the lines of its page.
-#[derive(Drop)]
+#[derive(Clone, Copy)]
 pub struct BusyReport {
     pub answer: Answer,
     pub state: State,
@@ -22,7 +24,7 @@ pub struct BusyReport {
 
 // A busy run as numbers: the run's, and the lines of its page.
 #[repr(C)]
-#[derive(Drop)]
+#[derive(Clone, Copy)]
 pub struct BusyNumbers(pub RunNumbers, pub usize);
 
 // The counters are set to 0.

@@ -1,4 +1,6 @@
 // What a run is called with: the start state, and the rules that a call may break.
+#![tactic(auto)]
+
 ghost use Rattle.std.specs.Prelude.{◌≡◌};
 ghost use Rattle.model.specs.Run.{call, refusal_of};
 ghost use Rattle.model.specs.State.{start_state};

@@ -1,4 +1,6 @@
 // The cells of a drawing, one for each address, each a word; and a demand met.
+#![tactic(auto)]
+
 ghost use Rattle.std.specs.Prelude.{◌≤◌, ◌<◌, ◌≡◌, [], ◌∷◌, length, get_or};
 ghost use Rattle.slices.specs.Sizes.{bank_size};
 ghost use Rattle.drawings.specs.internal.Cells.{bit, packed, cell_in, larger, joined, merged, has};

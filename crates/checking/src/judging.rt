@@ -8,7 +8,7 @@ use groups::{Number, read_field};
 
 // What is judged of the addresses: the place behind them and whether the last is blank; or a
 // refusal's number and its place.
-#[derive(Drop)]
+#[derive(Clone, Copy)]
 pub enum Walk {
     On(usize, bool),
     Refused(u8, usize),
@@ -38,7 +38,7 @@ fn judge_addresses(file: &[u8], at: usize, n: usize) -> Walk
 }
 
 // What is judged of bytes: the place behind them; or a refusal's number and its place.
-#[derive(Drop)]
+#[derive(Clone, Copy)]
 pub enum End {
     At(usize),
     Refused(u8, usize),
@@ -93,7 +93,7 @@ fn judge_list(file: &[u8], at: usize, blank: bool) -> Number
 
 // What is judged of a file: n and where its addresses begin, the number of routines and where their
 // bytes begin; or a refusal's number and its place.
-#[derive(Drop)]
+#[derive(Clone, Copy)]
 pub enum Judged {
     Good(usize, usize, usize, usize),
     Refused(u8, usize),

@@ -15,7 +15,7 @@ const MAX_WORD: u32 = 65535;
 
 // What is read of an address: opcode, argument, sheet word and the place behind them; or a
 // refusal's number and its place.
-#[derive(Drop)]
+#[derive(Clone, Copy)]
 pub enum Address {
     Numbers(u32, u32, u32, usize),
     Refused(u8, usize),

@@ -1,4 +1,6 @@
 // How each instruction goes on, what it does to V, and whether it writes to the roll.
+#![tactic(auto)]
+
 ghost use Rattle.std.specs.Prelude.{◌≡◌};
 ghost use Rattle.isa.specs.Facts.{effect_of, facts_of};
 

@@ -1,4 +1,6 @@
 // Two bytes read as one of the forty forms.
+#![tactic(auto)]
+
 ghost use Rattle.std.specs.Prelude.{◌≡◌, ◌/◌, ◌%◌, ◌+◌, ◌<◌};
 ghost use Rattle.isa.specs.Decode.{form_of};
 ghost use Rattle.isa.specs.RoundTrip.{Decodes};

@@ -1,6 +1,8 @@
 // The three demands, whole, of the functions that are exported and of the step that runs: each
 // function here only calls one of them and promises the demand's sentence, so a contract that is
 // weakened below fails here.
+#![tactic(auto)]
+
 ghost use Rattle.examples.specs.Listings.{Answered};
 ghost use Rattle.examples.specs.Marked.{Marked};
 ghost use Rattle.examples.specs.MovListings.{AnsweredByBoth};

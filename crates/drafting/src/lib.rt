@@ -1,4 +1,6 @@
 // The sheet and the list that settled cells give.
+#![tactic(auto)]
+
 ghost use Rattle.std.specs.Prelude.{◌+◌, ◌*◌, ◌≤◌, ◌<◌, ◌≡◌, length, replicate};
 ghost use Rattle.slices.specs.Parts.{padded};
 ghost use Rattle.slices.specs.Sizes.{bank_size};
@@ -13,7 +15,7 @@ use slices::BANK_SIZE;
 pub const MAX_ROUTINES: usize = 64;
 
 // The two bytes of an address on the sheet, the low one first.
-#[derive(Drop)]
+#[derive(Clone, Copy)]
 struct Word(u8, u8);
 
 // Whether an address is the entry of its own routine.

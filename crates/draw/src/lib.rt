@@ -1,4 +1,6 @@
 // Sheets drawn for members: the function that a host calls.
+#![tactic(auto)]
+
 ghost use Rattle.drawings.specs.Drawn.{lent, outcome, DrawnAs};
 
 use rules::{MAX_LIST_SIZE, SHEET_SIZE};
@@ -6,7 +8,7 @@ use sheets::buffers::buffer_sizes;
 
 // The answer to banks to be drawn: 0 and the number of routines, or the number of a refusal and 0.
 #[repr(C)]
-#[derive(Drop)]
+#[derive(Clone, Copy)]
 pub struct Drawing(pub u8, pub u8);
 
 // 0 and the number of routines, with the sheet and the list of two banks drawn into the buffers,

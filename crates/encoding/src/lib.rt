@@ -1,4 +1,6 @@
 // An instruction's two bytes, joined from its row, and putting them into the two banks.
+#![tactic(auto)]
+
 ghost use Rattle.std.specs.Prelude.{◌≡◌, false};
 ghost use Rattle.isa.specs.Encode.{bad_in_opcode, bad_in_argument, bad_function, opcode_byte, argument_byte, join_of, number_of, Put};
 ghost use Rattle.isa.specs.RoundTrip.{Encodes};

@@ -1,4 +1,6 @@
 // An instruction's effect, as one function with an arm for each form.
+#![tactic(auto)]
+
 ghost use Rattle.std.specs.Prelude.{◌≡◌, slice_index};
 ghost use Rattle.model.specs.State.{with_registers};
 ghost use Rattle.model.specs.Step.{fetched};

@@ -1,5 +1,7 @@
 // The forms that a row of the table of spellings stands for: one for a row of 003's instruction table, up to
 // three for a macro.
+#![tactic(auto)]
+
 ghost use Rattle.std.specs.Prelude.{◌≡◌, ◌+◌, ◌≤◌, ◌<◌};
 ghost use Rattle.spelling.specs.Spellings.{number_in, table_form};
 ghost use Rattle.expansion.specs.internal.Forms.{First, Second, Third};

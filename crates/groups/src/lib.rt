@@ -1,4 +1,6 @@
 // Numbers in seven-bit groups, written into a lent buffer and read from one.
+#![tactic(auto)]
+
 ghost use Rattle.std.specs.Prelude.{◌≡◌, ◌+◌, ◌%◌, ◌<◌, ◌≤◌, length, drop};
 ghost use Rattle.groups.specs.Fields.{field, field_in};
 ghost use Rattle.groups.specs.Groups.{groups_of};
@@ -6,7 +8,7 @@ ghost use Rattle.groups.specs.internal.Places.{last_of, value_in, read_by, place
 ghost use Rattle.pages.specs.Page.{page, write_of};
 
 // What is read of a number: its value and the place behind it, or a refusal's number and its place.
-#[derive(Drop)]
+#[derive(Clone, Copy)]
 pub enum Number {
     Value(u32, usize),
     Refused(u8, usize),

@@ -1,9 +1,10 @@
 // The instruction set of 003: its forty forms, their rows, and what is told of them. `specs/` says what
 // decoding, encoding and classifying are; nothing here runs.
+#![tactic(auto)]
 
 // A decoded instruction: a case for each row of 003's instruction table, in its order.
 // d is Rd, a is Ra, b is Rb, f the function; imm is Imm8 and addr Addr8.
-#[derive(Drop)]
+#[derive(Clone, Copy)]
 pub enum Instr {
     // ALU* Rd, Ra, Rb: d, a, f, b
     Alu(u8, u8, u8, u8),
@@ -78,7 +79,7 @@ pub enum Instr {
 
 // An opcode byte as the table writes it: its fixed bits, four before Rd (DD) and six in all where
 // the opcode goes on there (OO), then what stands at the letters; Ra (AA), or free bits (XX).
-#[derive(Drop)]
+#[derive(Clone, Copy)]
 pub enum Opcode {
     DDAA(u8, u8, u8),
     DDXX(u8, u8),
@@ -87,7 +88,7 @@ pub enum Opcode {
 }
 
 // An argument byte likewise: the function and Rb, an immediate or address, Rb alone, or free.
-#[derive(Drop)]
+#[derive(Clone, Copy)]
 pub enum Argument {
     FFFFXXBB(u8, u8),
     IIIIIIII(u8),
@@ -96,12 +97,12 @@ pub enum Argument {
 }
 
 // A row of the instruction table: opcode, argument and cycles.
-#[derive(Drop)]
+#[derive(Clone, Copy)]
 pub struct Row(pub Opcode, pub Argument, pub u8);
 
 // The answer to an instruction to be encoded, or put into the two banks: its bytes, or a refusal.
 // Only putting gives BadBank.
-#[derive(Drop)]
+#[derive(Clone, Copy)]
 pub enum Encoded {
     Bytes(u8, u8),
     BadBank,
@@ -110,7 +111,7 @@ pub enum Encoded {
 }
 
 // What an instruction does to V.
-#[derive(Drop)]
+#[derive(Clone, Copy)]
 pub enum OverflowEffect {
     Keeps,
     Settles,
@@ -119,7 +120,7 @@ pub enum OverflowEffect {
 
 // How an instruction goes on, with its address or with the register that goes to the stack. A
 // branch also says whether it tests V.
-#[derive(Drop)]
+#[derive(Clone, Copy)]
 pub enum Class {
     Next(OverflowEffect),
     Jump(u8),
@@ -134,5 +135,5 @@ pub enum Class {
 }
 
 // What later layers ask of an instruction: its class, and whether it writes to the roll.
-#[derive(Drop)]
+#[derive(Clone, Copy)]
 pub struct Facts(pub Class, pub bool);

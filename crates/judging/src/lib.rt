@@ -1,4 +1,6 @@
 // A draft of what two banks give, and whether admission accepts it.
+#![tactic(auto)]
+
 ghost use Rattle.std.specs.Prelude.{◌≡◌, length, replicate};
 ghost use Rattle.rules.specs.Grounds.{sheet_size, max_list_size};
 ghost use Rattle.drawings.specs.Reached.{banks};

@@ -1,4 +1,6 @@
 // The lines of a text, how many words they stand for, and the labels that they give and use.
+#![tactic(auto)]
+
 ghost use Rattle.std.specs.Prelude.{◌≡◌, Bool, false, length, take, drop, set, ◌+◌, ◌-◌, ◌≤◌, ◌<◌, min};
 ghost use Rattle.spelling.specs.internal.Rows.{table_bytes};
 ghost use Rattle.labels.specs.Lines.{lines_of, label_size, label_of, line_of, size_of, name_of};
@@ -12,7 +14,7 @@ pub const SLOTS: usize = 4096;
 
 // What a look at every line tells: the first that is no instruction or macro, 0 for none, and the words of all
 // lines; counting stops above 256.
-#[derive(Drop)]
+#[derive(Clone, Copy)]
 pub struct Survey {
     pub bad: usize,
     pub words: usize,

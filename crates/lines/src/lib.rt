@@ -1,4 +1,6 @@
 // The lines that the desk prints: one for a refused listing, two for an admitted one.
+#![tactic(auto)]
+
 ghost use Rattle.std.specs.Prelude.{◌+◌, length};
 ghost use Rattle.pages.specs.Text.{most_digits};
 ghost use Rattle.lines.specs.Lines.{numbered, refused_line, refused_room, admitted_line, admitted_room};

@@ -1,4 +1,6 @@
 // The machine's types and limits. `specs/` says what a step and a run do to them; nothing here runs.
+#![tactic(auto)]
+
 use alu::Flags;
 
 // The steps that a run may be asked for.
@@ -11,7 +13,7 @@ pub const MAX_CYCLES: u32 = 8000000;
 
 // The machine's state: R0 to R3, PC, SP, the output register, the flags, whether it is halted, and
 // the position in the keys.
-#[derive(Drop)]
+#[derive(Clone, Copy)]
 pub struct State {
     pub regs: [u8; 4],
     pub pc: u8,
@@ -24,7 +26,7 @@ pub struct State {
 
 // What a step writes: nothing, a byte to the data or the stack bank at an address, or a word to the
 // roll.
-#[derive(Drop)]
+#[derive(Clone, Copy)]
 pub enum Write {
     Nothing,
     Data(u8, u8),
@@ -33,7 +35,7 @@ pub enum Write {
 }
 
 // Why a run stops, in the order in which they are tested.
-#[derive(Drop)]
+#[derive(Clone, Copy)]
 pub enum Stop {
     Halted,
     Spent,
@@ -42,14 +44,14 @@ pub enum Stop {
 }
 
 // What stands before a step: it is made, or the run stops.
-#[derive(Drop)]
+#[derive(Clone, Copy)]
 pub enum Verdict {
     Go,
     Stopped(Stop),
 }
 
 // Why a run is refused.
-#[derive(Drop)]
+#[derive(Clone, Copy)]
 pub enum Refusal {
     BadBank,
     BadPosition,
@@ -57,28 +59,28 @@ pub enum Refusal {
 }
 
 // Whether a call passes its rules, or the first that it breaks.
-#[derive(Drop)]
+#[derive(Clone, Copy)]
 pub enum Precheck {
     Passed,
     Failed(Refusal),
 }
 
 // A run's answer beside the state: a refusal, or the stop, steps, cycles and roll words.
-#[derive(Drop)]
+#[derive(Clone, Copy)]
 pub enum Answer {
     Refused(Refusal),
     Ran(Stop, u32, u32, usize),
 }
 
 // What a run hands back: its answer, and the state reached or, for a refusal, the state as it was.
-#[derive(Drop)]
+#[derive(Clone, Copy)]
 pub struct Report {
     pub answer: Answer,
     pub state: State,
 }
 
 // A running time in tenths of a second, or why there is none.
-#[derive(Drop)]
+#[derive(Clone, Copy)]
 pub enum RunningTime {
     Tenths(u32),
     BadClock,

@@ -1,5 +1,7 @@
 // An instruction, an encoder's answer, a result with flags and an instruction's facts as numbers, and back.
 // `specs/Numbers.antt` says what each number means.
+#![tactic(auto)]
+
 ghost use Rattle.std.specs.Prelude.{◌≡◌};
 ghost use Rattle.numbers.specs.Numbers.{fields_of, instr_of, encoding_of, overflow_number, computed_numbers, effect_number, fact_numbers};
 
@@ -8,22 +10,22 @@ use isa::{Class, Encoded, Instr, OverflowEffect};
 
 // An instruction: row of the instruction table, d, a, f, b, immediate or address.
 #[repr(C)]
-#[derive(Drop)]
+#[derive(Clone, Copy)]
 pub struct Fields(pub u8, pub u8, pub u8, pub u8, pub u8, pub u8);
 
 // An encoder's answer: number, opcode, argument.
 #[repr(C)]
-#[derive(Drop)]
+#[derive(Clone, Copy)]
 pub struct Encoding(pub u8, pub u8, pub u8);
 
 // A result with flags: value, Z, C, S, V.
 #[repr(C)]
-#[derive(Drop)]
+#[derive(Clone, Copy)]
 pub struct ComputedNumbers(pub u8, pub bool, pub bool, pub bool, pub u8);
 
 // An instruction's facts: cycles, class, operand, effect on V, tests V, writes the roll.
 #[repr(C)]
-#[derive(Drop)]
+#[derive(Clone, Copy)]
 pub struct FactNumbers(pub u8, pub u8, pub u8, pub u8, pub bool, pub bool);
 
 // The numbers of an instruction.

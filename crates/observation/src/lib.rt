@@ -1,5 +1,7 @@
 // A run that is observed: beside what a run does, each executed address is counted, and written to a
 // log as far as there is room.
+#![tactic(auto)]
+
 ghost use Rattle.std.specs.Prelude.{◌≡◌, ◌+◌, ◌<◌, ◌≤◌, get_or, set, replicate};
 ghost use Rattle.slices.specs.Sizes.{bank_size};
 ghost use Rattle.pages.specs.Page.{page};

@@ -1,5 +1,7 @@
 // The opener of shelf files: a file that was judged whole is read once more and written into the
 // four buffers.
+#![tactic(auto)]
+
 ghost use Rattle.std.specs.Prelude.{◌≡◌, length};
 ghost use Rattle.slices.specs.Sizes.{bank_size};
 ghost use Rattle.rules.specs.Grounds.{sheet_size, max_list_size};
@@ -16,7 +18,7 @@ use sheets::buffers::buffer_sizes;
 use slices::BANK_SIZE;
 
 // The four bytes of an address and the place behind its numbers.
-#[derive(Drop)]
+#[derive(Clone, Copy)]
 pub struct Taken {
     pub opcode: u8,
     pub argument: u8,
@@ -83,7 +85,7 @@ fn fill_addresses(
 }
 
 // A byte, and the place behind its number.
-#[derive(Drop)]
+#[derive(Clone, Copy)]
 pub struct Byte {
     pub value: u8,
     pub next: usize,

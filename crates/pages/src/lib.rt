@@ -1,4 +1,6 @@
 // Bytes, texts and decimal numbers written from a place on. What has no room is dropped.
+#![tactic(auto)]
+
 pub mod columns;
 
 ghost use Rattle.std.specs.Prelude.{◌≡◌};

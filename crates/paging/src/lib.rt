@@ -1,4 +1,6 @@
 // The page of busy addresses, written on a lent buffer.
+#![tactic(auto)]
+
 ghost use Rattle.std.specs.Prelude.{◌≡◌, ◌≤◌, length};
 ghost use Rattle.slices.specs.Sizes.{bank_size};
 ghost use Rattle.pages.specs.Page.{page, write_of};

@@ -1,4 +1,6 @@
 // The text of an instruction, written by the table of spellings.
+#![tactic(auto)]
+
 ghost use Rattle.std.specs.Prelude.{◌≡◌};
 ghost use Rattle.pages.specs.Page.{page, write_of};
 ghost use Rattle.spelling.specs.internal.Rows.{table_bytes};
@@ -14,7 +16,7 @@ pub const TEXT_WIDTH: usize = 23;
 // The answer to an instruction to be printed: 0, the text's length, and the text with spaces behind it; or the
 // number of the refusal, 0 and spaces.
 #[repr(C)]
-#[derive(Drop)]
+#[derive(Clone, Copy)]
 pub struct Printed(pub u8, pub u8, pub [u8; 23]);
 
 // A register is written from a place on; the place after it.

@@ -1,4 +1,6 @@
 // The executed addresses one behind another, the busiest first.
+#![tactic(auto)]
+
 ghost use Rattle.std.specs.Prelude.{◌≡◌, length, get_or};
 ghost use Rattle.slices.specs.Sizes.{bank_size};
 ghost use Rattle.ranking.specs.Busier as order;
@@ -8,7 +10,7 @@ ghost use Rattle.ranking.specs.internal.Selection.{first_below, leader_of};
 pub const ADDRESSES: usize = 256;
 
 // An address, and how often it executed.
-#[derive(Drop)]
+#[derive(Clone, Copy)]
 pub struct AddressCount {
     pub address: usize,
     pub count: u32,

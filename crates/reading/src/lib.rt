@@ -1,4 +1,6 @@
 // A line read by a spelling, and the row of the table that a line fits.
+#![tactic(auto)]
+
 ghost use Rattle.std.specs.Prelude.{◌≡◌, length, ◌≤◌};
 ghost use Rattle.spelling.specs.internal.Rows.{table_bytes};
 ghost use Rattle.reading.specs.Reading.{is_place, failed, took_register, took_number, took_name, took_of, literal_of, byte_of, read_of, matched_of};
@@ -7,7 +9,7 @@ ghost use Rattle.reading.specs.internal.Rows.{begins_of, NextRow};
 use spelling::{Operand, Places};
 
 // How far a line is read by a spelling.
-#[derive(Drop)]
+#[derive(Clone, Copy)]
 pub struct Scan {
     pub ok: bool,
     pub at: usize,
@@ -15,7 +17,7 @@ pub struct Scan {
 }
 
 // The row that a line fits and what stands in its places.
-#[derive(Drop)]
+#[derive(Clone, Copy)]
 pub enum Matched {
     Fits(usize, Places),
     Misfit,

@@ -1,5 +1,7 @@
 // The desk's answer to an input, written as lines of text into a lent buffer: admission, and the run of an
 // admitted listing.
+#![tactic(auto)]
+
 ghost use Rattle.std.specs.Prelude.{◌≡◌, ◌≤◌, length, take};
 ghost use Rattle.report.specs.Answered.{Answered};
 ghost use Rattle.report.specs.Desk.{input_size, ran_of, ran_line, ran_text, desk_text, answer_room};

@@ -1,4 +1,6 @@
 // An instruction's row of 003's table, its fields at the row's letters.
+#![tactic(auto)]
+
 ghost use Rattle.std.specs.Prelude.{◌≡◌};
 ghost use Rattle.isa.specs.Table.{row_of, cycles_of};
 

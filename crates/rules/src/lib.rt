@@ -1,5 +1,6 @@
 // The rules of admission and the third demand. `specs/` states them, `proofs/` proves the demand;
 // nothing here runs.
+#![tactic(auto)]
 
 // The bytes of a stack sheet: a word for each address.
 pub const SHEET_SIZE: usize = 512;

@@ -1,5 +1,7 @@
 // A state from its numbers, and states, reports and running times as numbers. `specs/Runs.antt` says what each
 // number means.
+#![tactic(auto)]
+
 ghost use Rattle.std.specs.Prelude.{◌≡◌};
 ghost use Rattle.model.specs.Run.{refusal_number};
 ghost use Rattle.run_numbers.specs.Runs.{overflow_of, state_of, state_numbers, stop_number, run_numbers, time_numbers};
@@ -10,7 +12,7 @@ use numbers::overflow_number;
 
 // A state: R0 to R3, PC, SP, output register, Z, C, S, V, halted, position.
 #[repr(C)]
-#[derive(Drop)]
+#[derive(Clone, Copy)]
 pub struct StateNumbers(
     pub [u8; 4],
     pub u8,
@@ -26,7 +28,7 @@ pub struct StateNumbers(
 
 // A run's report: number, stop, steps, cycles, roll words, state.
 #[repr(C)]
-#[derive(Drop)]
+#[derive(Clone, Copy)]
 pub struct RunNumbers(
     pub u8,
     pub u8,
@@ -38,7 +40,7 @@ pub struct RunNumbers(
 
 // A running time: number, tenths.
 #[repr(C)]
-#[derive(Drop)]
+#[derive(Clone, Copy)]
 pub struct TimeNumbers(pub u8, pub u32);
 
 // V from its number.

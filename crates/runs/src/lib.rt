@@ -1,5 +1,7 @@
 // The machine's exports, in an archive apart from the other exports: decoding and the ALU then have
 // one caller, so that a run's loop holds them and calls nothing.
+#![tactic(auto)]
+
 ghost use Rattle.model.specs.Run.{call};
 ghost use Rattle.run_numbers.specs.Runs.{state_of, RunNumbered, TimeNumbered};
 

@@ -1,5 +1,7 @@
 // Which seat runs in a turn: where the seats have their parts and places, the rules of a call, and the
 // search for the first seat that can go on.
+#![tactic(auto)]
+
 pub mod lengths;
 pub mod places;
 pub mod refusals;
@@ -9,10 +11,10 @@ use run_numbers::StateNumbers;
 
 // What the seats have beside the buffers: states, and how many words stand on their rolls.
 #[repr(C)]
-#[derive(Drop)]
+#[derive(Clone, Copy)]
 pub struct SeatNumbers(pub [StateNumbers; 8], pub [usize; 8]);
 
 // How long the seats' parts of the keys and of the rolls are.
 #[repr(C)]
-#[derive(Drop)]
+#[derive(Clone, Copy)]
 pub struct SeatLengths(pub [usize; 8], pub [usize; 8]);

@@ -1,5 +1,7 @@
 // A turn: the first seat that can go on runs for a slice, on its own parts of the buffers that all
 // seats share.
+#![tactic(auto)]
+
 ghost use Rattle.std.specs.Prelude.{◌≡◌, ◌≤◌, ◌<◌, length};
 ghost use Rattle.seats.specs.Room.{max_seats};
 ghost use Rattle.seats.specs.Turn.{turn_call, max_slice, turn_of};
@@ -19,7 +21,7 @@ use seats::TurnAnswer;
 use slices::BANK_SIZE;
 
 // What a turn hands back: its answer, and the seats as they are after it.
-#[derive(Drop)]
+#[derive(Clone, Copy)]
 pub struct TurnReport {
     pub answer: TurnAnswer,
     pub seats: SeatNumbers,

@@ -1,5 +1,7 @@
 // The answer of a turn, and the limits of a call. `specs/` says what a turn and a list of turns are,
 // and what is promised of them; nothing here runs.
+#![tactic(auto)]
+
 use model::Stop;
 
 // The most seats of a room, and the most steps of a slice. Where an array has a place for each seat
@@ -10,7 +12,7 @@ pub const MAX_SLICE: u32 = 1000;
 
 // A turn's answer: the number of a refusal; that no seat can go on; or the seat that ran, the seat
 // after it, and stop, steps and cycles of its slice.
-#[derive(Drop)]
+#[derive(Clone, Copy)]
 pub enum TurnAnswer {
     Refused(u8),
     NoneCan,

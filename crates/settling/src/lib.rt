@@ -1,4 +1,6 @@
 // The demands of all addresses are met until none is open.
+#![tactic(auto)]
+
 ghost use Rattle.std.specs.Prelude.{◌≡◌, cond, ◌-◌, length};
 ghost use Rattle.slices.specs.Sizes.{bank_size};
 ghost use Rattle.drawings.specs.Reached.{banks};

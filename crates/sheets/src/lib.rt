@@ -1,4 +1,6 @@
 // Words of the stack sheet, needs of the routine list, and the lengths of a listing's parts.
+#![tactic(auto)]
+
 pub mod buffers;
 pub mod grounds;
 pub mod sizes;
@@ -10,7 +12,7 @@ use slices::byte_at;
 
 // A sheet word's parts (01, 'The stack sheet'), and whether it is 0. `marked`: V is settled here.
 // `depth`: the bytes above the routine's return address.
-#[derive(Drop)]
+#[derive(Clone, Copy)]
 pub struct Word {
     pub blank: bool,
     pub described: bool,

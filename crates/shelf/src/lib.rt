@@ -1,4 +1,6 @@
 // Shelf files: the functions that a host calls.
+#![tactic(auto)]
+
 ghost use Rattle.std.specs.Prelude.{◌≡◌};
 ghost use Rattle.rules.specs.Sheet.{listing};
 ghost use Rattle.shelf.specs.Exported.{shelved_numbers, opened_numbers, ShelvedAs, OpenedAs};
@@ -7,13 +9,13 @@ use files::{Opened, Shelved};
 
 // The writer's answer: 0 and the file's length, or the number of a refusal and 0.
 #[repr(C)]
-#[derive(Drop)]
+#[derive(Clone, Copy)]
 pub struct ShelvedNumbers(pub u8, pub usize);
 
 // The opener's answer: 0 and the number of routines, or the number of a refusal and its place in
 // the file.
 #[repr(C)]
-#[derive(Drop)]
+#[derive(Clone, Copy)]
 pub struct OpenedNumbers(pub u8, pub usize);
 
 // The writer's answer in numbers.

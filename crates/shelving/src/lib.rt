@@ -1,5 +1,7 @@
 // The writer of shelf files: n, the numbers of n addresses, the number of routines, and entry and
 // need of each, one behind another.
+#![tactic(auto)]
+
 ghost use Rattle.std.specs.Prelude.{◌≡◌, [], ◌+◌, ◌*◌, ◌<◌, ◌≤◌, length};
 ghost use Rattle.groups.specs.Groups.{row_of};
 ghost use Rattle.pages.specs.Page.{page, write_of};

@@ -1,9 +1,8 @@
 -- The first broken of a list of checks: it is 0 exactly if none is broken, and else the number and place of one before which all hold.
 -- Assumes nothing.
 use mathlib.Core.Path.{◌≡◌, refl, ap}
-use mathlib.Core.List.{List, [], ◌∷◌, ◌++◌}
-use mathlib.Core.Bool.{Bool, true, false}
-use Prim.Native.Nat.{ℕ, ◌+◌, ◌*◌, ◌<◌}
+use mathlib.Core.List.{List, [], ◌∷◌}
+use Prim.Native.Nat.{◌+◌, ◌*◌, ◌<◌}
 use native.Mathlib.Omega.{arith}
 use Rattle.slices.specs.Checks.{Check, first_broken, NoneBroken, Named, FirstViolation}
 use Rattle.slices.proofs.Bools.{by_test}

@@ -1,4 +1,6 @@
 // Total reads and writes of lent bytes.
+#![tactic(auto)]
+
 ghost use Rattle.std.specs.Prelude.{◌≡◌, get_or, set};
 ghost use Rattle.slices.specs.Parts.{part_of};
 

@@ -1,4 +1,6 @@
 // The functions for listings as text that a host calls, on numbers and slices.
+#![tactic(auto)]
+
 ghost use Rattle.source.specs.Source.{PrintedAs, AssembledAs};
 
 use assembling::Assembled;

@@ -1,11 +1,13 @@
 // 003's spellings of its instructions and macros in one table, and what a word of a line can be.
+#![tactic(auto)]
+
 ghost use Rattle.std.specs.Prelude.{◌≡◌, Bool, length, get_or, drop, ◌+◌, ◌≤◌};
 ghost use Rattle.spelling.specs.Spellings.{pattern_of};
 ghost use Rattle.spelling.specs.Words.{in_word, word_length, digit_of, decimal_of, numeral_of, operand_of};
 ghost use Rattle.spelling.specs.internal.Rows.{table_bytes};
 
 // What a word of a line is.
-#[derive(Drop)]
+#[derive(Clone, Copy)]
 pub enum Operand {
     Register(u8),
     Number(u8),
@@ -15,7 +17,7 @@ pub enum Operand {
 
 // What stands in the places of a spelling: Rd, Ra, Rb, the number and the address; where the address is a
 // label's name, the place and length of the name in the line.
-#[derive(Drop)]
+#[derive(Clone, Copy)]
 pub struct Places {
     pub d: u8,
     pub a: u8,

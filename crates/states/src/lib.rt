@@ -1,4 +1,6 @@
 // The state with one part changed, and where SP moves; the registers, which a run holds beside it.
+#![tactic(auto)]
+
 pub mod registers;
 
 ghost use Rattle.std.specs.Prelude.{◌≡◌};

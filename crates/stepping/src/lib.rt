@@ -1,4 +1,6 @@
 // A step, unless something stops it.
+#![tactic(auto)]
+
 ghost use Rattle.std.specs.Prelude.{◌≡◌, ◌+◌, ◌<◌, ◌≤◌, length, set};
 ghost use Rattle.effects.specs.internal.Effects.{operated};
 ghost use Rattle.model.specs.Run.{attempt, attempt_of, steps_by};
@@ -11,7 +13,7 @@ use states::registers::write;
 
 // A step, or the stop that prevents it: the verdict, the cycles, and the roll words and the state
 // afterwards, but for its registers.
-#[derive(Drop)]
+#[derive(Clone, Copy)]
 pub struct StepResult {
     pub verdict: Verdict,
     pub cycles: u32,

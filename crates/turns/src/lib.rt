@@ -1,5 +1,7 @@
 // The export for turns, in an archive apart from the other exports: decoding and the ALU then have one
 // caller, and are inlined into the run's loop.
+#![tactic(auto)]
+
 ghost use Rattle.std.specs.Prelude.{◌≡◌};
 ghost use Rattle.seats.specs.Turn.{turn_call};
 ghost use Rattle.scheduling.specs.Numbers.{room_of};
@@ -14,7 +16,7 @@ use seats::TurnAnswer;
 // A turn's report: number, whether a seat ran, its stop, steps and cycles, that seat, the seat after
 // it, and the seats.
 #[repr(C)]
-#[derive(Drop)]
+#[derive(Clone, Copy)]
 pub struct TurnNumbers(
     pub u8,
     pub bool,

@@ -1,4 +1,6 @@
 // 01's "Programs run the rest", put to admission; `stdout` holds what 01 says of each.
+#![tactic(auto)]
+
 use rules::SHEET_SIZE;
 use slices::BANK_SIZE;
 

@@ -1,5 +1,7 @@
 // A short table of listings worked out by hand from 003 and 01, run one after another; `stdout` holds what
 // the papers say of each. The host's tests have the long one.
+#![tactic(auto)]
+
 use alu::{Flags, Overflow};
 use calls::start_state;
 use model::{Answer, State};

@@ -1,4 +1,6 @@
 // A visit of an address: all that it demands is met.
+#![tactic(auto)]
+
 ghost use Rattle.std.specs.Prelude.{◌≡◌, ◌+◌, ◌-◌, length, slice_index};
 ghost use Rattle.rules.specs.Successors.{successors};
 ghost use Rattle.slices.specs.Sizes.{bank_size};

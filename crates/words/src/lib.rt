@@ -1,4 +1,6 @@
 // The words of a text stored in two banks.
+#![tactic(auto)]
+
 ghost use Rattle.std.specs.Prelude.{◌≡◌, length, set, replicate, ◌≤◌, ◌<◌};
 ghost use Rattle.spelling.specs.Spellings.{forms_of};
 ghost use Rattle.spelling.specs.internal.Rows.{table_bytes};
@@ -12,7 +14,7 @@ use reading::Matched;
 use spelling::Places;
 
 // The two bytes of an instruction.
-#[derive(Drop)]
+#[derive(Clone, Copy)]
 struct Word(u8, u8);
 
 // The two bytes of a form, 0 where the encoder refuses it.
