@@ -133,7 +133,7 @@ module _ (L : Listing) where
           stack_long = rw st l.stack_long;
         })
 
-    pops : {row : List Entry} (m m' : Machine) → Running row m → Rules L m.core.state.pc Pop → LastOwn L (routine L m.core.state.pc) (depth L m.core.state.pc - 1) row
+    pops : (m m' : Machine) {row : List Entry} → Running row m → Rules L m.core.state.pc Pop → LastOwn L (routine L m.core.state.pc) (depth L m.core.state.pc - 1) row
         → Acts Pop (top_of m) m.core.state m'.core.state → m'.stack ≡ m.stack → After Pop row m m'
     unfolding tally_of
     pops m m' l r (last_own {row = row} b f) a st =
@@ -142,14 +142,14 @@ module _ (L : Listing) where
         (lands m.core.state.pc _ r.fits.0 a.0.pc_is f (rw st l.held.1) (rw a.0.sp_is (up_is m.core.state.sp (length row) l.sp_is))
         (v_after Keeps m.core.state.flags.v m'.core.state.flags.v (marked L m.core.state.pc) a.1 l.v_settled) (rw st l.stack_long))
 
-    swapped : {row : List Entry} (m m' : Machine) (q : ℕ) → Running row m → Rules L m.core.state.pc (Swap q) → LastOwn L (routine L m.core.state.pc) (depth L m.core.state.pc - 1) row
+    swapped : (m m' : Machine) (q : ℕ) {row : List Entry} → Running row m → Rules L m.core.state.pc (Swap q) → LastOwn L (routine L m.core.state.pc) (depth L m.core.state.pc - 1) row
         → Acts (Swap q) (top_of m) m.core.state m'.core.state → m'.stack ≡ set m.stack m.core.state.sp (register m.core.state q) → After (Swap q) row m m'
     unfolding tally_of
     swapped m m' q l r (last_own {row = row} b f) a st =
         let t : top_of m ≡ b = held_last m.stack m.core.state.sp (byte b (routine L m.core.state.pc)) row l.sp_is l.held in
         stays (rw t last_byte) a.0.sp_is
         (lands m.core.state.pc _ r.fits.0 a.0.pc_is (subst (λ (n : ℕ). Frames L (routine L m.core.state.pc) n (byte (register m.core.state q) (routine L m.core.state.pc) ∷ row)) (omega (arith, r.own refl)) (pushed (register m.core.state q) f))
-        (rw st (held_push m.stack m.core.state.sp (byte (register m.core.state q) (routine L m.core.state.pc)) row l.stack_long l.sp_is l.held.1))
+        (subst (λ (k : List ℕ). Held k (byte (register m.core.state q) (routine L m.core.state.pc) ∷ row)) (sym st) (held_push m.stack m.core.state.sp (byte (register m.core.state q) (routine L m.core.state.pc)) row l.stack_long l.sp_is l.held.1))
         (rw a.0.sp_is l.sp_is)
         (v_after Keeps m.core.state.flags.v m'.core.state.flags.v (marked L m.core.state.pc) a.1 l.v_settled) (rw (st, length-set) l.stack_long))
 
@@ -181,7 +181,7 @@ module _ (L : Listing) where
         let n : suc (length row) ≤ need L 0 = omega (arith, frames_bound L fr) in
         stays tt (goes_down _ _ (length row) l.sp_is (down_is m.stack m.core.state.sp e row l.held l.sp_is n) a.0.sp_is)
         (lands_entry (callee L t) (A.entries (callee L t) c.in_list) (a.0.pc_is ∙ sym c.an_entry) fr
-        (rw st (adds m.stack m.core.state.sp e row l.held l.sp_is n l.stack_long))
+        (subst (λ (k : List ℕ). Held k (e ∷ row)) (sym st) (adds m.stack m.core.state.sp e row l.held l.sp_is n l.stack_long))
         (rw a.0.sp_is (down_is m.stack m.core.state.sp e row l.held l.sp_is n)) (rw (st, length-set) l.stack_long))
     class_safe {row} m m' Return l r a st =
         let o = r.returns refl in
@@ -193,7 +193,7 @@ module _ (L : Listing) where
         let n : suc (length row) ≤ need L 0 = omega (arith, frames_bound L fr, (A.rules _ f.is_described).depth_there, ap (need L) f.same_routine) in
         stays tt (goes_down _ _ (length row) l.sp_is (down_is m.stack m.core.state.sp e row l.held l.sp_is n) a.0.sp_is)
         (lands m.core.state.pc _ f a.0.pc_is (rw add-one fr)
-        (rw st (adds m.stack m.core.state.sp e row l.held l.sp_is n l.stack_long))
+        (subst (λ (k : List ℕ). Held k (e ∷ row)) (sym st) (adds m.stack m.core.state.sp e row l.held l.sp_is n l.stack_long))
         (rw a.0.sp_is (down_is m.stack m.core.state.sp e row l.held l.sp_is n))
         (v_after Keeps m.core.state.flags.v m'.core.state.flags.v (marked L m.core.state.pc) a.1 l.v_settled) (rw (st, length-set) l.stack_long))
     class_safe m m' Pop l r a st = pops m m' l r (own_last L l.frames (r.own refl)) a st

@@ -226,5 +226,5 @@ module _ (L : Listing) (A : Admitted L) (bytes : Bytes L.list) where
       let v : with_stack w w'.stack ≡ w' = rw (p, q) in
       let h : CallPair row ps w w' (outcome_of L.program r w) (outcome_of L.program r w') (run_events L.program r w) =
       subst (λ (u : Snapshot). CallPair row ps w u (outcome_of L.program r w) (outcome_of L.program r u) (run_events L.program r w)) v
-      (call_pair row ps r w w'.stack g (rw v g') a) in
+      (call_pair row ps r w w'.stack g (subst (λ (u : Snapshot). Safe L row (rest u)) (sym v) g') a) in
       (h.agrees, list_pair rs _ _ (left_by (outcome_of L.program r w) w) (left_by (outcome_of L.program r w') w') h.same_state h.same_ram h.safe h.safe' h.agree)
