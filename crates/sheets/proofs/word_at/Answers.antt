@@ -1,0 +1,8 @@
+-- The two bytes as one number.
+use borrow.Author.Rules.{rules}
+use Rattle.sheets.specs.internal.Words.{word_of}
+use Rattle.sheets.proofs.word_at.Goals as goal
+
+pub returns : goal.returns
+unfolding word_of
+returns c = rw (c.parts.ensures, c.widen-high.ensures, c.byte_at-2.ensures, c.widen-low.ensures, c.byte_at.ensures)
