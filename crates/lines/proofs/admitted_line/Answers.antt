@@ -1,0 +1,9 @@
+-- Text and need, then the line feed.
+use borrow.Author.Rules.{rules}
+use Rattle.lines.specs.Lines.{admitted_line}
+use Rattle.pages.proofs.Pages.{byte_written}
+use Rattle.lines.proofs.admitted_line.Goals as goal
+
+pub returns : goal.returns
+unfolding admitted_line
+returns c = byte_written 10 c.write_numbered-after_need.ensures c.put.ensures
