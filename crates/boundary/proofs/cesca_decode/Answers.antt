@@ -1,0 +1,14 @@
+-- The numbers of what was decoded, which are those of that instruction alone.
+use mathlib.Core.Path.{ap, ◌∙◌}
+use Rattle.numbers.specs.Numbers.{fields_of}
+use Rattle.numbers.proofs.FieldsInverse.{fields_inverse}
+use borrow.Author.Rules.{rules}
+use Rattle.boundary.proofs.cesca_decode.Goals as goal
+
+pub returns : goal.returns
+returns c =
+    let d = c.decode.ensures in
+    record {
+      table = c.fields_of.ensures ∙ ap fields_of d.table;
+      decodes = rw (c.fields_of.ensures, fields_inverse) d;
+    }
