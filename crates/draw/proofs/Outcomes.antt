@@ -2,11 +2,10 @@
 -- Assumes nothing.
 use Prim.Native.Nat.{ℕ}
 use native.Mathlib.Omega.{arith}
-use mathlib.Core.Path.{◌≡◌, sym, ap₂, ◌∙◌}
-use mathlib.Core.List.{List, ◌++◌, append-nil}
+use mathlib.Core.Path.{◌≡◌, sym, ◌∙◌}
+use mathlib.Core.List.{List}
 use mathlib.Core.Bool.{Bool, true, false}
-use lib.ListN.{length, take, drop, drop_of_length-le}
-use lib.Seq.{take-length}
+use lib.ListN.{length}
 use borrow.Author.Tests.{eqb-true, not-false}
 use Rattle.slices.proofs.Checks.{none_broken}
 use Rattle.drawings.specs.Drawn.{Lent, outcome, size_checks, size_fault, refused, bad_size, none_admitted, draws, DrawnAs}
@@ -25,10 +24,6 @@ sheet_fits c e z l = (sized c (sym e ∙ z)).0 ∙ sym l
 
 pub list_fits : (c : Lent) {n k : ℕ} → n ≡ size_fault c → n ≡ 0 → k ≡ 128 → length c.list ≡ k
 list_fits c e z l = (sized c (sym e ∙ z)).1 ∙ sym l
-
--- and then it is all replaced
-pub copied : (from to : List ℕ) {out : List ℕ} → length to ≡ length from → out ≡ take (length from) from ++ drop (length from) to → out ≡ from
-copied from to h e = e ∙ ap₂ ◌++◌ (take-length from) (drop_of_length-le to {i = length from} (omega arith)) ∙ append-nil from
 
 pub size_refused : (c : Lent) (n : ℕ) → n ≡ size_fault c → (n ≡ 0 → ⊥) → DrawnAs c (refused n c)
 size_refused c n e h = rw e (promised (bad_size (λ z. h (e ∙ z))))

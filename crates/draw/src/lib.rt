@@ -32,7 +32,7 @@ pub extern "C" fn cesca_draw(
     if !judging::is_admitted(opcodes, arguments, &drawn_sheet, &drawn_list, n) {
         return Drawing(27, 0);
     }
-    bytes::copy(&drawn_sheet, sheet);
-    bytes::copy(&drawn_list, list);
+    sheet.copy_from_slice(&drawn_sheet);
+    list.copy_from_slice(&drawn_list);
     Drawing(0, n as u8)
 }

@@ -7,4 +7,4 @@ use Rattle.report.proofs.run_program.Goals as goal
 pub returns : goal.returns
 returns c =
     let a = c.args in
-    written_same c.ran_Line.ensures (ran_text_of a.opcodes.now a.arguments.now _ c.start_state.ensures c.run-report.ensures.computed)
+    written_same c.ran_line.ensures (ran_text_of a.opcodes.now a.arguments.now _ c.start_state.ensures c.run-report.ensures.computed)
