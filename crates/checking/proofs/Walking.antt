@@ -37,8 +37,8 @@ module _ (file : List ℕ) (at : ℕ) where
       → ReadsAs file at meant (refused q (drop p file)) p
   walk_refused h e = rw e at h
 
-  pub ends : {meant : Read ℕ} {r : End} {next : ℕ} → ReadsAs file at meant (end_by file r) (end_place r) → r ≡ end.At next → ReadsAs file at meant (got 0 (drop next file)) next
-  ends h e = rw e at h
+  pub end_met : {meant : Read ℕ} {r : End} {next : ℕ} → ReadsAs file at meant (end_by file r) (end_place r) → r ≡ end.At next → ReadsAs file at meant (got 0 (drop next file)) next
+  end_met h e = rw e at h
 
   pub end_refused : {meant : Read ℕ} {r : End} {q p : ℕ} → ReadsAs file at meant (end_by file r) (end_place r) → r ≡ end.Refused q p
       → ReadsAs file at meant (refused q (drop p file)) p

@@ -1,0 +1,16 @@
+-- The count is the rank of the address that the loop has come to.
+use Prim.Native.Nat.{◌-◌}
+use native.Mathlib.Omega.{arith}
+use mathlib.Core.Path.{sym, ◌∙◌}
+use Rattle.drafting.proofs.Numbering.{Numbering, numbers_start, numbers_size, numbers_next, numbers_end}
+use borrow.Author.Rules.{rules}
+use Rattle.drafting.proofs.number_routines.Goals as goal
+
+pub loop-a-init : goal.loop-a-init
+loop-a-init c = numbers_start c.requires
+
+pub loop-a-preserved : goal.loop-a-preserved
+loop-a-preserved c = numbers_next c.loop-a.invariant c.loop-a-test.true c.count_entry-routines.ensures
+
+pub returns : goal.returns
+returns c = numbers_end c.loop-a.invariant (omega (arith, c.loop-a-test.false))

@@ -1,0 +1,8 @@
+-- The three tests are those of `blank`.
+use Rattle.rules.specs.Sheet.{word}
+use borrow.Author.Rules.{rules}
+use Rattle.shelving.proofs.is_blank.Goals as goal
+
+pub returns : goal.returns
+unfolding word
+returns c = rw (c.byte_at-opcode.ensures, c.byte_at-argument.ensures, c.word_at-word.ensures)

@@ -1,0 +1,14 @@
+-- An address a turn: what is left, written from here, leaves the page of the whole.
+use borrow.Author.Rules.{rules}
+use Prim.Native.Nat.{◌-◌}
+use mathlib.Core.List.{[]}
+use Rattle.pages.specs.Page.{page}
+use Rattle.rules.specs.Sheet.{listing}
+use Rattle.shelving.proofs.RowsPut.{PutTo, to_starts, to_goes, to_ends}
+use Rattle.shelving.proofs.put_addresses.Goals as goal
+
+pub loop-a-preserved : goal.loop-a-preserved
+loop-a-preserved c = to_goes c.loop-a.invariant c.loop-a-test.true c.put_address-next.ensures c.put_address-next.auto.out
+
+pub returns : goal.returns
+returns c = to_ends c.loop-a.invariant c.loop-a-test.false

@@ -1,0 +1,31 @@
+-- A law for each answer; 2,051 bytes are room for every file.
+use native.Mathlib.Omega.{arith}
+use Rattle.rules.specs.Sheet.{Listing, listing}
+use Rattle.files.specs.Promise.{Passes}
+use Rattle.files.proofs.Sizes.{good_sizes}
+use Rattle.shelving.proofs.Answers.{refuse_sizes, refuse_room, sized, shelved_whole}
+use borrow.Author.Rules.{rules}
+use Rattle.shelving.proofs.shelve.Goals as goal
+use Rattle.shelving.proofs.shelve.Goals.{Else-fault-ne0}
+
+abbrev passes : (c : Else-fault-ne0) → Passes (listing c.args.opcodes.now c.args.arguments.now c.args.sheet.now c.args.list.now)
+passes c =
+    record {
+      sizes = sized (listing c.args.opcodes.now c.args.arguments.now c.args.sheet.now c.args.list.now) c.args.out.now c.listing_sizes-fault.ensures c.if-fault-ne0.false;
+      opcode_bytes = λ i. (c.type_inv.opcodes i).fits;
+      argument_bytes = λ i. (c.type_inv.arguments i).fits;
+      sheet_bytes = λ i. (c.type_inv.sheet i).fits;
+      list_bytes = λ i. (c.type_inv.list i).fits;
+    }
+
+pub returns-then-fault-ne0 : goal.returns-then-fault-ne0
+returns-then-fault-ne0 c = refuse_sizes (listing c.args.opcodes.now c.args.arguments.now c.args.sheet.now c.args.list.now) c.args.out.now c.listing_sizes-fault.ensures c.if-fault-ne0.true
+
+pub returns-then-out-lt-FILE_ROOM : goal.returns-then-out-lt-FILE_ROOM
+returns-then-out-lt-FILE_ROOM c = refuse_room (listing c.args.opcodes.now c.args.arguments.now c.args.sheet.now c.args.list.now) c.args.out.now c.listing_sizes-fault.ensures c.if-fault-ne0.false (omega (arith, c.if-out-lt-FILE_ROOM.true))
+
+pub put_file-requires : goal.put_file-requires
+put_file-requires c = let s = good_sizes (listing c.args.opcodes.now c.args.arguments.now c.args.sheet.now c.args.list.now) (passes (goal.at.put_file-requires c).Else-fault-ne0).sizes in omega (arith, s.list, s.few)
+
+pub returns : goal.returns
+returns c = shelved_whole (listing c.args.opcodes.now c.args.arguments.now c.args.sheet.now c.args.list.now) c.args.out.now (passes (goal.at.returns c).Else-fault-ne0) (omega (arith, c.if-out-lt-FILE_ROOM.false)) _ _ c.put_file.ensures
