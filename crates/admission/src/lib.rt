@@ -7,8 +7,7 @@ ghost use Rattle.rules.specs.Sheet.{listing};
 ghost use Rattle.admission.specs.Admission.{Admission};
 
 // 0 for a listing that is admitted, or number + 256 × place of the first ground that it gives.
-#[unsafe(no_mangle)]
-pub extern "C" fn cesca_admit(opcodes: &[u8], arguments: &[u8], sheet: &[u8], list: &[u8]) -> u32
+pub fn cesca_admit(opcodes: &[u8], arguments: &[u8], sheet: &[u8], list: &[u8]) -> u32
     ensures { Admission (listing opcodes.now arguments.now sheet.now list.now) result }
 {
     scans::admit(opcodes, arguments, sheet, list)

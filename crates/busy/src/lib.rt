@@ -128,8 +128,7 @@ fn run_busy(
 }
 
 // A busy run as numbers, or the number of a refusal that leaves everything lent as it was.
-#[unsafe(no_mangle)]
-pub extern "C" fn cesca_run_busy(
+pub fn cesca_run_busy(
     opcodes: &[u8],
     arguments: &[u8],
     keys: &[u8],

@@ -13,8 +13,7 @@ pub struct Drawing(pub u8, pub u8);
 
 // 0 and the number of routines, with the sheet and the list of two banks drawn into the buffers,
 // all of both; or the number of a refusal and 0, with both as they were.
-#[unsafe(no_mangle)]
-pub extern "C" fn cesca_draw(
+pub fn cesca_draw(
     opcodes: &[u8],
     arguments: &[u8],
     sheet: &mut [u8],

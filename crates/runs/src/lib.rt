@@ -8,8 +8,7 @@ ghost use Rattle.run_numbers.specs.Runs.{state_of, RunNumbered, TimeNumbered};
 use run_numbers::{RunNumbers, StateNumbers, TimeNumbers};
 
 // A run's report, or the number of a refusal that leaves everything lent as it was.
-#[unsafe(no_mangle)]
-pub extern "C" fn cesca_run(
+pub fn cesca_run(
     opcodes: &[u8],
     arguments: &[u8],
     keys: &[u8],
@@ -29,8 +28,7 @@ pub extern "C" fn cesca_run(
 }
 
 // The tenths of a second that so many cycles take at a clock in Hz, or the number of a refusal.
-#[unsafe(no_mangle)]
-pub extern "C" fn cesca_running_time(cycles: u32, clock: u32) -> TimeNumbers
+pub fn cesca_running_time(cycles: u32, clock: u32) -> TimeNumbers
     ensures { TimeNumbered cycles clock result }
 {
     run_numbers::time_numbers(timing::running_time(cycles, clock))

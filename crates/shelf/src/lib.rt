@@ -40,8 +40,7 @@ fn opened_numbers(answer: Opened) -> OpenedNumbers
 
 // 0 and the length of a listing's file, which stands in front of what the buffer held; or the
 // number of a refusal and 0, with the buffer as it was.
-#[unsafe(no_mangle)]
-pub extern "C" fn cesca_shelve(
+pub fn cesca_shelve(
     opcodes: &[u8],
     arguments: &[u8],
     sheet: &[u8],
@@ -55,8 +54,7 @@ pub extern "C" fn cesca_shelve(
 
 // 0 and the number of routines of a file that opens, with its listing in the four buffers, all of
 // each; or the number of a refusal and its place in the file, with all four as they were.
-#[unsafe(no_mangle)]
-pub extern "C" fn cesca_open(
+pub fn cesca_open(
     file: &[u8],
     opcodes: &mut [u8],
     arguments: &mut [u8],

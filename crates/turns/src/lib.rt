@@ -43,8 +43,7 @@ fn turn_numbers(answer: TurnAnswer, states: [StateNumbers; 8], positions: [usize
 }
 
 // A turn's report, or the number of a refusal that leaves everything lent as it was.
-#[unsafe(no_mangle)]
-pub extern "C" fn cesca_turn(
+pub fn cesca_turn(
     n: usize,
     slice: u32,
     from: usize,

@@ -1,0 +1,24 @@
+// The exports for listings as text, as C calls them.
+#![tactic(auto)]
+
+ghost use Rattle.source.specs.Source.{PrintedAs, AssembledAs};
+
+use assembling::Assembled;
+use numbers::Fields;
+use printing::Printed;
+
+// The text of an instruction, or the number of its refusal.
+#[unsafe(no_mangle)]
+pub extern "C" fn cesca_print(fields: Fields) -> Printed
+    ensures { PrintedAs fields result }
+{
+    source::cesca_print(fields)
+}
+
+// A text assembled into both banks, or the number and line of a refusal that leaves them as they were.
+#[unsafe(no_mangle)]
+pub extern "C" fn cesca_assemble(text: &[u8], opcodes: &mut [u8], arguments: &mut [u8]) -> Assembled
+    ensures { AssembledAs text.now opcodes.old arguments.old result opcodes.new arguments.new }
+{
+    source::cesca_assemble(text, opcodes, arguments)
+}
