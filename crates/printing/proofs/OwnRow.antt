@@ -3,7 +3,7 @@
 -- Assumes nothing.
 use Prim.Native.Nat.{ℕ, suc, ◌+◌, ◌<◌}
 use native.Mathlib.Omega.{arith}
-use mathlib.Core.Path.{◌≡◌, refl, sym, ap, ◌∙◌}
+use mathlib.Core.Path.{◌≡◌, refl, sym, ap, ◌∙◌, subst}
 use mathlib.Core.Bool.{Bool, true, false, not, cond, ◌&&◌, ◌||◌, false≢true}
 use mathlib.Core.List.{List, [], ◌∷◌, ◌++◌, append_assoc, append-nil}
 use lib.Dec.{eqb}
@@ -139,7 +139,10 @@ module _ (x : Fields) (v : InRange x) (h : x.5 < 256) where
       let t = shown_at x c in
       let q : pre ++ (t ++ filled p x) ≡ (pre ++ t) ++ filled p x = sym (append_assoc pre t (filled p x)) in
       let l : length pre + length t ≡ length (pre ++ t) = sym (length-append pre t) in
-      rw (byte_own pre p c s u.0, l, q) (scan_own p (pre ++ t) (placed x c s) u.1)
+      let rest : scan_of (pre ++ (t ++ filled p x)) p (scanned (length pre + length t) (placed x c s)) ≡ scanned (length (pre ++ (t ++ filled p x))) (places_by p x (placed x c s)) =
+      subst (λ (k : List ℕ). scan_of k p (scanned (length pre + length t) (placed x c s)) ≡ scanned (length k) (places_by p x (placed x c s))) (sym q)
+      (rw l (scan_own p (pre ++ t) (placed x c s) u.1)) in
+      ap (scan_of (pre ++ (t ++ filled p x)) p) (byte_own pre p c s u.0) ∙ rest
 
   pub read_own : (k : ℕ) → read_of (filled (pattern_of k) x) 0 k ≡ scanned (length (filled (pattern_of k) x)) (places_by (pattern_of k) x empty_places)
   unfolding read_of

@@ -1,0 +1,12 @@
+-- "R", and the number behind it.
+use borrow.Author.Rules.{rules}
+use mathlib.Core.Path.{ap, ◌∙◌}
+use Rattle.pages.specs.Page.{write_of}
+use Rattle.pages.specs.Text.{decimal}
+use Rattle.printing.proofs.write_register.Goals as goal
+
+pub returns : goal.returns
+unfolding write_of
+returns c =
+    let a = c.args in
+    c.write_decimal.ensures.text.left ∙ ap (write_of (decimal a.r)) c.put-next.ensures
