@@ -3,6 +3,8 @@
 
 use rules::SHEET_SIZE;
 use slices::BANK_SIZE;
+use std::io;
+use std::io::Print;
 
 // A byte is put at a place; past the end nothing changes.
 fn put(s: &mut [u8], at: usize, v: u8) {
@@ -12,18 +14,22 @@ fn put(s: &mut [u8], at: usize, v: u8) {
 }
 
 // Writes admission's answer to a listing.
-fn print_answer(name: &[u8], opcodes: &[u8], arguments: &[u8], sheet: &[u8], list: &[u8]) {
+fn print_answer(
+    out: &impl Print,
+    name: &[u8],
+    opcodes: &[u8],
+    arguments: &[u8],
+    sheet: &[u8],
+    list: &[u8],
+) -> io::Result<()> {
     let answer = admission::cesca_admit(opcodes, arguments, sheet, list);
-    io::write_all(1, name);
+    out.write_all(name)?;
     if answer == 0 {
-        io::write_all(1, b": admitted\n");
-    } else {
-        io::write_all(1, b": ");
-        io::print_decimal(1, (answer % 256) as u64);
-        io::write_all(1, b" at ");
-        io::print_decimal(1, (answer / 256) as u64);
-        io::write_all(1, b"\n");
+        return out.write_all(b": admitted\n");
     }
+    let number = answer % 256;
+    let place = answer / 256;
+    println!(out; ": {number} at {place}")
 }
 
 // Each address is described in routine 0, at a depth that rises from 0.
@@ -37,17 +43,17 @@ fn describe(sheet: &mut [u8]) {
 }
 
 // `push R0` at each address and another opcode at 255, with need 255.
-fn pushes(name: &[u8], last: u8) {
+fn pushes(out: &impl Print, name: &[u8], last: u8) -> io::Result<()> {
     let mut opcodes = [0x5Cu8; BANK_SIZE];
     let arguments = [0u8; BANK_SIZE];
     let mut sheet = [0u8; SHEET_SIZE];
     describe(&mut sheet);
     put(&mut opcodes, 255, last);
-    print_answer(name, &opcodes, &arguments, &sheet, &[0, 255]);
+    print_answer(out, name, &opcodes, &arguments, &sheet, &[0, 255])
 }
 
 // `push R0`, then `jmp 0`, with need 1.
-fn growing_loop() {
+fn growing_loop(out: &impl Print) -> io::Result<()> {
     let mut opcodes = [0u8; BANK_SIZE];
     let arguments = [0u8; BANK_SIZE];
     let mut sheet = [0u8; SHEET_SIZE];
@@ -57,12 +63,13 @@ fn growing_loop() {
     put(&mut sheet, 2, 1);
     put(&mut sheet, 3, 0x80);
     print_answer(
+        out,
         b"push, then jmp 0, need 1",
         &opcodes,
         &arguments,
         &sheet,
         &[0, 1],
-    );
+    )
 }
 
 // Admission's answer to routine 0 at 0 that calls itself, with a need.
@@ -91,15 +98,11 @@ fn needs_refused() -> usize {
     256
 }
 
-fn main() {
-    pushes(b"255 pushes, then hlt at 255, need 255", 0xF8);
-    pushes(b"a push at 255 instead", 0x5C);
-    pushes(b"nop at 255", 0xFC);
-    growing_loop();
-    io::write_all(
-        1,
-        b"a routine that calls itself: 15 at 0 for the needs below ",
-    );
-    io::print_decimal(1, needs_refused() as u64);
-    io::write_all(1, b"\n");
+fn main(rt: HostRuntime) -> io::Result<()> {
+    pushes(&rt, b"255 pushes, then hlt at 255, need 255", 0xF8)?;
+    pushes(&rt, b"a push at 255 instead", 0x5C)?;
+    pushes(&rt, b"nop at 255", 0xFC)?;
+    growing_loop(&rt)?;
+    let needs = needs_refused();
+    println!(rt; "a routine that calls itself: 15 at 0 for the needs below {needs}")
 }

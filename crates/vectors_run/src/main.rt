@@ -6,6 +6,8 @@ use alu::{Flags, Overflow};
 use calls::start_state;
 use model::{Answer, State};
 use slices::BANK_SIZE;
+use std::io;
+use std::io::Print;
 
 // Room for the line of a run.
 const LINE_ROOM: usize = 74;
@@ -42,29 +44,35 @@ fn key_in(listing: &[u8], at: u8, opcodes: &mut [u8], arguments: &mut [u8]) {
 }
 
 // Writes a name and a byte as a number.
-fn byte(name: &[u8], n: u8) {
-    io::write_all(1, name);
-    io::print_decimal(1, n as u64);
+fn byte(out: &impl Print, name: &[u8], n: u8) -> io::Result<()> {
+    out.write_all(name)?;
+    print!(out; "{n}")
 }
 
 // Writes the desk's line of a run, or that it was refused.
-fn run_line(answer: Answer, s: State) {
+fn run_line(out: &impl Print, answer: Answer, s: State) -> io::Result<()> {
     match answer {
-        Answer::Refused(_) => {
-            io::write_all(1, b" refused\n");
-        }
+        Answer::Refused(_) => { out.write_all(b" refused\n") }
         Answer::Ran(stop, steps, cycles, _) => {
             let mut line = [0u8; LINE_ROOM];
             let n = lines::run_line(&mut line, 0, stop, steps, cycles, s.out, s.sp);
-            io::write_all(1, b" ");
-            io::write_all(1, slices::part(&line, 0, n));
+            out.write_all(b" ")?;
+            out.write_all(slices::part(&line, 0, n))
         }
     }
 }
 
 // Runs a listing keyed in at an address, with a roll of 4 words, and writes R0 and R3, the stack bytes at
 // 254 and 255, and the line of the run. The stack bank is full of 170.
-fn worked(name: &[u8], listing: &[u8], at: u8, keys: &[u8], budget: u32, start: State) {
+fn worked(
+    out: &impl Print,
+    name: &[u8],
+    listing: &[u8],
+    at: u8,
+    keys: &[u8],
+    budget: u32,
+    start: State,
+) -> io::Result<()> {
     let mut opcodes = [0u8; BANK_SIZE];
     let mut arguments = [0u8; BANK_SIZE];
     key_in(listing, at, &mut opcodes, &mut arguments);
@@ -77,80 +85,102 @@ fn worked(name: &[u8], listing: &[u8], at: u8, keys: &[u8], budget: u32, start: 
     let answer = r.answer;
     let s = r.state;
     let regs = s.regs;
-    byte(name, regs[0]);
-    byte(b", R3 ", regs[3]);
-    byte(b", stack ", stack[254]);
-    byte(b" ", stack[255]);
-    io::write_all(1, b":");
-    run_line(answer, s);
+    byte(out, name, regs[0])?;
+    byte(out, b", R3 ", regs[3])?;
+    byte(out, b", stack ", stack[254])?;
+    byte(out, b" ", stack[255])?;
+    out.write_all(b":")?;
+    run_line(out, answer, s)
 }
 
 // Listing A, V, keys and the stack.
-fn instructions() {
+fn instructions(out: &impl Print) -> io::Result<()> {
     let listing_a = b"\x30\x05\xA8\x04\xF0\x00\xF8\x00\x5E\x00\x10\x01\x88\x00\xAC\x00";
-    worked(b"listing A: R0 ", listing_a, 0, b"", 1000, start_state());
+    worked(
+        out,
+        b"listing A: R0 ",
+        listing_a,
+        0,
+        b"",
+        1000,
+        start_state(),
+    )?;
     let mask = b"\x10\x00\x28\xF0\xF8\x00";
     worked(
+        out,
         b"mask unsettles V: R0 ",
         mask,
         0,
         b"",
         1000,
         state(0, 255, 15),
-    );
+    )?;
     let keys = b"\x40\x00\x50\x00\x44\x00\x50\x00\x48\x00\x50\x00\xF8\x00";
     worked(
+        out,
         b"keys and Ack: R0 ",
         keys,
         0,
         b"\x07\x09",
         1000,
         start_state(),
-    );
+    )?;
     worked(
+        out,
         b"push at SP 0: R0 ",
         b"\x5C\x00\xF8\x00",
         0,
         b"",
         1000,
         state(0, 0, 9),
-    );
+    )?;
     let swap = b"\x30\x01\x34\x02\x5C\x00\x99\x00\x8C\x00\xF8\x00";
-    worked(b"swap: R0 ", swap, 0, b"", 1000, start_state());
+    worked(out, b"swap: R0 ", swap, 0, b"", 1000, start_state())?;
     worked(
+        out,
         b"call at 255: R0 ",
         b"\xA8\x00\xF8\x00",
         255,
         b"",
         1000,
         state(255, 255, 0),
-    );
+    )
 }
 
 // Runs that something stops, or refuses.
-fn stops() {
+fn stops(out: &impl Print) -> io::Result<()> {
     let five = b"\xE4\x01\xE4\x02\xE4\x03\xE4\x04\xE4\x05\xF8\x00";
-    worked(b"full roll: R0 ", five, 0, b"", 1000, start_state());
-    worked(b"spent budget: R0 ", b"\xA0\x00", 0, b"", 10, start_state());
+    worked(out, b"full roll: R0 ", five, 0, b"", 1000, start_state())?;
     worked(
+        out,
+        b"spent budget: R0 ",
+        b"\xA0\x00",
+        0,
+        b"",
+        10,
+        start_state(),
+    )?;
+    worked(
+        out,
         b"jle with Z set: R0 ",
         b"\x28\x00\xDC\x00",
         0,
         b"",
         9,
         start_state(),
-    );
+    )?;
     worked(
+        out,
         b"budget over 1,000,000: R0 ",
         b"\x40\x00\xF8\x00",
         0,
         b"",
         1000001,
         start_state(),
-    );
+    )
 }
 
-fn main() {
-    instructions();
-    stops();
+fn main(rt: HostRuntime) -> io::Result<()> {
+    instructions(&rt)?;
+    stops(&rt)
 }

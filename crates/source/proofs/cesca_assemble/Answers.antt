@@ -4,22 +4,15 @@ use Rattle.words.specs.Program.{program_of}
 use Rattle.words.proofs.Counts.{forms_count}
 use Rattle.source.proofs.Printed.{reads_printed}
 use Rattle.source.proofs.AllValid.{program_valid}
-use Rattle.source.proofs.cesca_assemble.Statement.{statement}
-use Rattle.source.proofs.cesca_assemble.Tie as tie
+use Rattle.source.proofs.cesca_assemble.Goals as goal
 
-pub cesca_assemble_spec : {M : Type 1} → statement M
-cesca_assemble_spec =
-    tie.close
-    (tie.spec
-    (λ c κs. search rules)
-    (λ c. search rules)
-    (λ c. search rules)
-    (λ c.
+pub returns : goal.returns
+returns c =
     record {
-      assembles = c.before.before.before.before.assemble.ensures;
+      assembles = c.assemble.ensures;
       reads_printed = reads_printed _;
       one_row = one_row;
       counted = λ n. forms_count _ _ 0;
       all_counted = unfold program_of in forms_count _ _ 0;
       valid = program_valid _;
-    }))
+    }

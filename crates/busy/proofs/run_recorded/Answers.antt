@@ -1,0 +1,17 @@
+-- The counters from 0 on, the observed run, and the page of what it counted.
+use mathlib.Core.Path.{ap, ◌∙◌}
+use Prim.Native.Nat.{ℕ}
+use borrow.Author.Rules.{rules}
+use lib.ListN.{length, replicate}
+use Rattle.model.specs.Run.{call}
+use Rattle.executions.proofs.Counting.{counters_length}
+use Rattle.busy_runs.specs.Busy.{records}
+use Rattle.busy_runs.proofs.Promises.{made}
+use Rattle.busy.proofs.run_recorded.Goals as goal
+
+pub returns : goal.returns
+returns c =
+    let a = c.args in
+    made (call a.opcodes.now a.arguments.now a.keys.now a.budget a.start a.ram.now a.stack.now a.roll.now) c.requires.0
+    c.observe-report.ensures.addresses (records a.counters.now a.page.now) _ _ _ _ c.requires.2 c.observe-report.ensures.ran
+    c.observe-report.ensures.counted c.write_page-lines.ensures

@@ -1,0 +1,8 @@
+-- The fields are cut from the bytes, and the form is the table's.
+use mathlib.Core.Path.{◌∙◌}
+use borrow.Author.Rules.{rules}
+use Rattle.paging.proofs.Forms.{instruction_found}
+use Rattle.paging.proofs.instruction.Goals as goal
+
+pub returns : goal.returns
+returns c = c.instruction.ensures ∙ instruction_found c.args.opcode c.args.argument c.ranges.opcode.fits c.low_pair.ensures c.low_pair-2.ensures c.low_pair-3.ensures
