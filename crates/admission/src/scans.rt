@@ -4,12 +4,12 @@ ghost use Rattle.std.specs.Prelude.{◌≡◌};
 ghost use Rattle.rules.specs.Sheet.{listing};
 ghost use Rattle.slices.specs.Checks.{first_broken};
 ghost use Rattle.admission.specs.declared.scans.Stage.TheVariants.{Entries};
-ghost use Rattle.admission.specs.internal.Stages.{stage_checks, stage_places, StageReady, stage_of, scans_of, stages_of};
+ghost use Rattle.admission.specs.internal.Stages.{stage_checks, stage_places, StageReady, stage_of, sizes_of, scans_of, stages_of};
 
 use addresses::address_ground;
+use rules::{MAX_LIST_SIZE, SHEET_SIZE};
 use sheets::entry_of;
 use sheets::grounds::{blank_ground, entry_ground, first, routine_ground};
-use sheets::sizes::listing_sizes;
 use slices::BANK_SIZE;
 
 // The rules that are judged at one place after another: 4, 5, 7, and 8 to 16.
@@ -19,6 +19,23 @@ enum Stage {
     Routines,
     Entries,
     Addresses,
+}
+
+// 1, 2 or 3 for lengths that are not as they should be, or 0.
+fn sizes(opcodes: &[u8], arguments: &[u8], sheet: &[u8], list: &[u8]) -> u32
+    ensures { result ≡ sizes_of (listing opcodes.now arguments.now sheet.now list.now) }
+{
+    if !((opcodes.len() == BANK_SIZE) & (arguments.len() == BANK_SIZE)) {
+        return 1;
+    }
+    if !(sheet.len() == SHEET_SIZE) {
+        return 2;
+    }
+    let n = list.len();
+    if (n % 2 == 1) | ((n == 0) | (MAX_LIST_SIZE < n)) {
+        return 3;
+    }
+    0
 }
 
 // How many places a stage has, where so many routines are listed.
@@ -98,9 +115,9 @@ fn scans(opcodes: &[u8], arguments: &[u8], sheet: &[u8], list: &[u8]) -> u32
 pub fn admit(opcodes: &[u8], arguments: &[u8], sheet: &[u8], list: &[u8]) -> u32
     ensures { result ≡ stages_of (listing opcodes.now arguments.now sheet.now list.now) }
 {
-    let lengths = listing_sizes(opcodes, arguments, sheet, list);
+    let lengths = sizes(opcodes, arguments, sheet, list);
     if lengths != 0 {
-        return lengths as u32;
+        return lengths;
     }
     scans(opcodes, arguments, sheet, list)
 }

@@ -1,15 +1,31 @@
 // Sheets drawn for members: the function that a host calls.
 #![tactic(auto)]
 
-ghost use Rattle.drawings.specs.Drawn.{lent, outcome, DrawnAs};
+ghost use Rattle.drawings.specs.Drawn.{lent, outcome, size_fault, DrawnAs};
 
 use rules::{MAX_LIST_SIZE, SHEET_SIZE};
-use sheets::buffers::buffer_sizes;
+use slices::BANK_SIZE;
 
 // The answer to banks to be drawn: 0 and the number of routines, or the number of a refusal and 0.
 #[repr(C)]
 #[derive(Clone, Copy)]
 pub struct Drawing(pub u8, pub u8);
+
+// 1, 2 or 3 for lengths that are not as they should be, or 0.
+fn sizes(opcodes: &[u8], arguments: &[u8], sheet: &[u8], list: &[u8]) -> u8
+    ensures { result ≡ size_fault (lent opcodes.now arguments.now sheet.now list.now) }
+{
+    if !((opcodes.len() == BANK_SIZE) & (arguments.len() == BANK_SIZE)) {
+        return 1;
+    }
+    if !(sheet.len() == SHEET_SIZE) {
+        return 2;
+    }
+    if !(list.len() == MAX_LIST_SIZE) {
+        return 3;
+    }
+    0
+}
 
 // 0 and the number of routines, with the sheet and the list of two banks drawn into the buffers,
 // all of both; or the number of a refusal and 0, with both as they were.
@@ -21,7 +37,7 @@ pub fn cesca_draw(
 ) -> Drawing
     ensures { DrawnAs (lent opcodes.now arguments.now sheet.old list.old) (outcome result.0 result.1 sheet.new list.new) }
 {
-    let fault = buffer_sizes(opcodes, arguments, sheet, list);
+    let fault = sizes(opcodes, arguments, sheet, list);
     if fault != 0 {
         return Drawing(fault, 0);
     }

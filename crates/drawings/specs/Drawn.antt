@@ -1,11 +1,11 @@
 -- 02 [2], SHEETS DRAWN FOR MEMBERS: what is drawn from banks alone, and the whole outcome of a call.
 -- Assumes nothing.
-use Rattle.std.specs.Prelude.{ℕ, ◌≤◌, ◌<◌, ◌≡◌, true, List}
-use Rattle.slices.specs.Lists.{Bytes}
-use Rattle.slices.specs.Checks.{Check, first_broken, FirstViolation}
+use Rattle.std.specs.Prelude.{ℕ, ◌≤◌, ◌<◌, ◌≡◌, true, not, List, [], ◌∷◌, length, eqb}
+use Rattle.slices.specs.Checks.{Check, check, first_broken, FirstViolation}
 use Rattle.slices.specs.Parts.{padded}
 use Rattle.model.specs.Step.{Program}
-use Rattle.rules.specs.Grounds.{admit_of, buffer_checks, max_list_size}
+use Rattle.rules.specs.Demand.{Bytes}
+use Rattle.rules.specs.Grounds.{admit_of, bad_banks, bad_sheet, max_list_size}
 use Rattle.rules.specs.Sheet.{Listing, word, described, marked, routines, entry, need}
 use Rattle.drawings.specs.Reached.{banks, Reached}
 
@@ -69,7 +69,11 @@ outcome n k s l = record { number = n; count = k; sheet = s; list = l }
 
 -- "1 covers the banks, 2 a sheet buffer not of 512 bytes, 3 a list buffer not of 128"
 abbrev pub size_checks : Lent → List Check
-size_checks c = buffer_checks (listed c.program c.sheet c.list)
+size_checks c =
+    check 1 0 (bad_banks (listed c.program [] []))
+    ∷ check 2 0 (bad_sheet (listed c.program c.sheet []))
+    ∷ check 3 0 (not (eqb (length c.list) max_list_size))
+    ∷ []
 
 unfoldable pub size_fault : Lent → ℕ
 size_fault c = first_broken (size_checks c)

@@ -1,7 +1,7 @@
 -- THE THIRD DEMAND (01, 'Lists of runs'): what holds of every list of runs of an admitted listing, whatever the data, the old stack contents,
 -- the keys, the registers, the flags Z, C and S, the budgets and the rolls.
 -- Assumes nothing.
-use Rattle.std.specs.Prelude.{ℕ, ◌+◌, ◌≤◌, ◌≡◌, List, [], ◌∷◌, Bool, true, length, get_or}
+use Rattle.std.specs.Prelude.{ℕ, ◌+◌, ◌≤◌, ◌<◌, ◌≡◌, List, [], ◌∷◌, Bool, true, length, get_or}
 use Rattle.isa.specs.declared.Class.{Class}
 use Rattle.isa.specs.declared.Class.TheVariants.{Next, Jump, Branch, JumpReg, Call, Return, Push, Pop, Swap, Halt}
 use Rattle.model.specs.Run.{Outcome, run_of, trace_of}
@@ -12,7 +12,6 @@ use Rattle.model.specs.declared.Answer.TheVariants.{Refused, Ran}
 use Rattle.model.specs.declared.Stop.TheVariants.{Unsettled}
 use Rattle.rules.specs.Grounds.{admit_of}
 use Rattle.rules.specs.RunLists.{Snapshot, ListedRun, Event, starts, steps, outcome_of, left_by, run_events, outcomes, events}
-use Rattle.slices.specs.Lists.{Bytes}
 use Rattle.slices.specs.Sizes.{bank_size}
 use Rattle.rules.specs.Sheet.{Listing, described, routine, need, class_at}
 use Rattle.rules.specs.Tally.{Entry, byte, return_to, tally, Store, stores_of}
@@ -156,6 +155,10 @@ pub record Holds (L : Listing) (w : Snapshot) (rs : List ListedRun) : Type 0 whe
   pub traces : (x : Setting) (n : ℕ) (m : Machine) → TraceIs x n m
   -- old stack contents never show in an answer
   pub noninterference : (w' : Snapshot) → SameButStack w w' → AllAgree L [] rs w w'
+
+-- a lent slice of bytes
+abbrev pub Bytes : List ℕ → Type 0
+Bytes l = (i : ℕ) → get_or l i 0 < 256
 
 abbrev pub Demand : Type 0
 Demand = (L : Listing) → Bytes L.list → admit_of L ≡ 0 → (w : Snapshot) → Starts w → (rs : List ListedRun) → Holds L w rs

@@ -173,7 +173,7 @@ module _ (settles : ℕ → Bool) (L : Listing) where
   -- every rule, in checking order
   unfoldable pub checks_by : List Check
   checks_by =
-      listing_checks L
+      (check 1 0 (bad_banks L) ∷ check 2 0 (bad_sheet L) ∷ check 3 0 (bad_list L) ∷ [])
       ++ (each (λ a. check 4 a (bad_blank L a) ∷ []) 0 bank_size
       ++ (each (λ a. check 5 a (bad_routine L a) ∷ []) 0 bank_size
       ++ ((check 6 0 (bad_start L) ∷ [])

@@ -2,11 +2,11 @@
 -- has them, and the third demand holds of that list.
 -- Assumes nothing.
 use Rattle.std.specs.Prelude.{ℕ, ◌-◌, ◌≤◌, ◌≡◌, cond, List, [], ◌∷◌, ◌++◌, eqb, length, drop}
-use Rattle.slices.specs.Lists.{mapped, Bytes}
+use Rattle.slices.specs.Lists.{mapped}
 use Rattle.model.specs.Run.{Outcome, outcome, trace_of}
 use Rattle.model.specs.Step.{Machine, machine_at}
 use Rattle.model.specs.declared.Answer.TheVariants as run
-use Rattle.rules.specs.Demand.{Starts, Holds}
+use Rattle.rules.specs.Demand.{Bytes, Starts, Holds}
 use Rattle.rules.specs.Grounds.{admit_of}
 use Rattle.rules.specs.RunLists.{Snapshot, resume, own, ListedRun, run_machine, outcomes}
 use Rattle.rules.specs.Sheet.{Listing}

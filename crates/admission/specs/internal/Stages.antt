@@ -1,7 +1,7 @@
 -- Admission as the code computes it: the stages one after another, each a scan. It is `admit_of` (proofs/Answer.antt).
 -- Assumes nothing.
 use Rattle.std.specs.Prelude.{ℕ, ◌≤◌, List, [], ◌∷◌}
-use Rattle.rules.specs.Grounds.{listing_checks, bad_blank, bad_routine, bad_start, bad_entry, address_checks}
+use Rattle.rules.specs.Grounds.{bad_banks, bad_sheet, bad_list, bad_blank, bad_routine, bad_start, bad_entry, address_checks}
 use Rattle.rules.specs.Sheet.{Listing, routines}
 use Rattle.rules.specs.internal.Scans.{or_else, scan_of}
 use Rattle.slices.specs.Checks.{Check, check, first_broken}
@@ -37,7 +37,7 @@ stage_of s L = scan_of (stage_checks s L) 0 (stage_places s (routines L))
 
 -- 1 to 3
 abbrev pub sizes_of : Listing → ℕ
-sizes_of L = first_broken (listing_checks L)
+sizes_of L = first_broken (check 1 0 (bad_banks L) ∷ check 2 0 (bad_sheet L) ∷ check 3 0 (bad_list L) ∷ [])
 
 -- 6
 abbrev pub start_of : Listing → ℕ

@@ -1,6 +1,6 @@
 -- Each arm is a row of the table. The last arm is the last row, which is also the answer past it. What V
 -- means, and what eight rols give, follows from the table.
-use Rattle.std.proofs.Common.{ℕ, Bool, List, take, refl, ◌∙◌, rules}
+use Rattle.std.proofs.Common.{ℕ, Bool, List, take, refl, ◌∙◌}
 use Rattle.slices.proofs.Arms.{past}
 use Rattle.slices.proofs.Lookup.{get_d_last}
 use Rattle.alu.specs.Alu.{functions, alu_of}

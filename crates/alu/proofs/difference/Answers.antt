@@ -1,5 +1,5 @@
 -- Borrow and V by the bytes are those of the exact and the signed difference.
-use Rattle.std.proofs.Common.{ℕ, ◌||◌, ltb, ap, ◌∙◌, rules}
+use Rattle.std.proofs.Common.{ℕ, ◌||◌, ltb, ap, ◌∙◌}
 use Rattle.alu.specs.Alu.{bit, difference_of}
 use Rattle.alu.specs.declared.Overflow.TheVariants.{Settled}
 use Rattle.alu.proofs.SignBits.{difference_overflow, difference_borrows}

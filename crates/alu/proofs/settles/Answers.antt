@@ -1,5 +1,5 @@
 -- What `alu` gives at zero operands says it.
-use Rattle.std.proofs.Common.{ap, ◌∙◌, rules}
+use Rattle.std.proofs.Common.{ap, ◌∙◌}
 use Rattle.alu.specs.Alu.{is_settled, settles_of}
 use Rattle.alu.specs.declared.Computed.{Computed}
 use Rattle.alu.proofs.settles.Goals as goal

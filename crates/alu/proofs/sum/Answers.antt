@@ -1,5 +1,5 @@
 -- Carry and V by the bytes are those of the exact and the signed sum.
-use Rattle.std.proofs.Common.{ap, ◌∙◌, rules}
+use Rattle.std.proofs.Common.{ap, ◌∙◌}
 use Rattle.alu.specs.Alu.{bit, sum_of}
 use Rattle.alu.specs.declared.Overflow.TheVariants.{Settled}
 use Rattle.alu.proofs.SignBits.{sum_overflow, sum_carries}

@@ -6,7 +6,6 @@ use native.Mathlib.Omega.{arith}
 use Rattle.isa.specs.Decode.{form_of, decode_of}
 use Rattle.isa.specs.declared.Instr.TheVariants.{Alu}
 use Rattle.isa.proofs.Promises.{decodes}
-use borrow.Author.Rules.{rules}
 use Rattle.decoding.proofs.decode.Goals as goal
 
 -- the table's first row, whose upper four bits are 0

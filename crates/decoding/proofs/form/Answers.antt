@@ -1,8 +1,5 @@
 -- At each number g the table is searched by computing; the fields are those that the arm has cut. No g is left for `_`.
-use native.Mathlib.Omega.{arith}
-use Rattle.slices.proofs.Arms.{past}
 use Rattle.isa.specs.Decode.{form_of}
-use borrow.Author.Rules.{rules}
 use Rattle.decoding.proofs.form.Goals as goal
 
 pub returns-in-0 : goal.returns-in-0

@@ -2,7 +2,6 @@
 use mathlib.Core.Path.{ap, ◌∙◌}
 use Rattle.isa.specs.Encode.{join_of, encode_of}
 use Rattle.isa.proofs.Promises.{encodes}
-use borrow.Author.Rules.{rules}
 use Rattle.encoding.proofs.encode.Goals as goal
 
 pub returns : goal.returns

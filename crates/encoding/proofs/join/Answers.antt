@@ -1,8 +1,5 @@
 -- The tests are those of the definition, in its order.
-use mathlib.Core.Path.{sym, ◌∙◌}
-use Rattle.slices.proofs.Bools.{neither}
 use Rattle.isa.specs.Encode.{join_of}
-use borrow.Author.Rules.{rules}
 use Rattle.encoding.proofs.join.Goals as goal
 
 pub returns-then-is_bad_opcode-is_bad_argument : goal.returns-then-is_bad_opcode-is_bad_argument

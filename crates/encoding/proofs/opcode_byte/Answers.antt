@@ -1,7 +1,6 @@
 -- Each arm joins its letters; none is over 3, so none reaches another's bits.
 use borrow.Author.Tests.{ltb-false}
 use Rattle.encoding.proofs.Joined.{joined_opcode, joined_pair, joined_six}
-use borrow.Author.Rules.{rules}
 use Rattle.encoding.proofs.opcode_byte.Goals as goal
 
 pub returns-in-DDAA : goal.returns-in-DDAA

@@ -1,12 +1,9 @@
 -- A bank of another length is refused before anything is encoded; a refusal of the encoder is passed on; else both bytes are stored.
 use mathlib.Core.Path.{◌≡◌, sym, ◌∙◌}
-use mathlib.Core.Logic.{⊎_elim}
-use native.Mathlib.Omega.{arith}
 use Prim.Native.Nat.{ℕ}
 use Rattle.isa.specs.declared.Encoded.TheVariants.{Bytes}
 use Rattle.isa.proofs.Banks.{bad_opcodes, bad_arguments, good_banks}
 use Rattle.isa.proofs.Refusals.{refusal_keeps, put_outcome}
-use borrow.Author.Rules.{rules}
 use Rattle.encoding.proofs.put.Goals as goal
 
 pub returns-then-opcodes-ne-BANK_SIZE : goal.returns-then-opcodes-ne-BANK_SIZE

@@ -9,15 +9,15 @@ use Rattle.admission.proofs.scans.admit.Goals as goal
 
 pub returns-then-lengths-ne0 : goal.returns-then-lengths-ne0
 unfolding stages_of
-returns-then-lengths-ne0 c = or_hit _ c.listing_sizes-lengths.ensures c.if-lengths-ne0.true
+returns-then-lengths-ne0 c = or_hit _ c.sizes-lengths.ensures c.if-lengths-ne0.true
 
 pub scans-requires : goal.scans-requires
 unfolding stages_of
 scans-requires c =
     let a = c.args in
     let L = listing a.opcodes.now a.arguments.now a.sheet.now a.list.now in
-    few_routines L (sym c.listing_sizes-lengths.ensures ∙ c.if-lengths-ne0.false)
+    few_routines L (sym c.sizes-lengths.ensures ∙ c.if-lengths-ne0.false)
 
 pub returns : goal.returns
 unfolding stages_of
-returns c = or_pass c.listing_sizes-lengths.ensures c.if-lengths-ne0.false c.scans.ensures
+returns c = or_pass c.sizes-lengths.ensures c.if-lengths-ne0.false c.scans.ensures
