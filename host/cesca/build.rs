@@ -26,7 +26,7 @@ fn link(directory: &Path, name: &str) {
     println!("cargo:rerun-if-changed={}", archive.display());
     assert!(
         archive.is_file(),
-        "{} is missing: run `bash host/build` (or `rt staticlib {name}`) first, \
+        "{} is missing: run `bash host/build` first, \
          or name the archives' directory in CESCA_LIB",
         archive.display()
     );

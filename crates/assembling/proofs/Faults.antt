@@ -1,29 +1,28 @@
 -- The first rule that a text breaks, by the first bad line, the first faulty label and the number of words; and from the answer and both banks to
 -- the whole outcome.
 -- Assumes nothing.
-use Prim.Native.Nat.{ℕ, zero, suc, ◌+◌, ◌*◌, ◌/◌, ◌%◌, ◌≤◌, ◌<◌}
+use Prim.Native.Nat.{ℕ, ◌+◌, ◌*◌, ◌/◌, ◌%◌, ◌≤◌, ◌<◌}
 use native.Mathlib.Omega.{arith}
-use mathlib.Core.Path.{◌≡◌, refl, sym, ap, ap₂, ◌∙◌}
-use mathlib.Core.Bool.{Bool, true, false, cond, not, ◌||◌}
+use mathlib.Core.Path.{◌≡◌, refl, sym, ap, ◌∙◌}
+use mathlib.Core.Bool.{Bool, true, false, cond, ◌||◌}
 use mathlib.Core.List.{List, [], ◌∷◌, ◌++◌}
 use lib.Dec.{eqb, ltb}
-use lib.ListN.{length, replicate}
-use borrow.Author.Tests.{eq-eqb, ne_eqb, eqb-true, eqb-false, lt-ltb, le-ltb}
-use Rattle.slices.specs.Checks.{Check, first_broken, NoneBroken, FirstViolation}
-use Rattle.slices.specs.Sizes.{bank_size, bad_bank}
+use lib.ListN.{length}
+use borrow.Author.Tests.{eq-eqb, ne_eqb, eqb-true, lt-ltb, le-ltb}
+use Rattle.slices.specs.Checks.{Check, first_broken, NoneBroken}
+use Rattle.slices.specs.Sizes.{bad_bank}
 use Rattle.slices.proofs.Bools.{by_test}
-use Rattle.slices.proofs.Checks.{Numbered, all_hold, none_broken, first_violation}
-use Rattle.isa.specs.declared.Instr.{Instr}
+use Rattle.slices.proofs.Checks.{Numbered, none_broken, first_violation}
 use Rattle.labels.specs.Lines.{lines_of, word_count}
-use Rattle.labels.specs.Labels.{at_each, line_checks, label_checks}
+use Rattle.labels.specs.Labels.{at_each}
 use Rattle.labels.specs.declared.Survey.{Survey}
-use Rattle.labels.specs.internal.Search.{first_line, bad_line, bad_label, count_from, Inspected, Index}
-use Rattle.words.specs.Program.{program_of, opcode_of, argument_of, bank_of}
-use Rattle.words.specs.internal.Storing.{stored_in, Ready}
+use Rattle.labels.specs.internal.Search.{first_line, bad_line, bad_label, Inspected, Index}
+use Rattle.words.specs.Program.{program_of, opcode_of, argument_of}
+use Rattle.words.specs.internal.Storing.{stored_in}
 use Rattle.words.proofs.Counts.{count_exact, count_over, forms_count}
 use Rattle.words.proofs.Storing.{zeros, stored_whole}
 use Rattle.assembling.specs.declared.Assembled.{Assembled}
-use Rattle.assembling.specs.Assemble.{text_checks, assemble_checks, fault_of, answer_by, answer_of, bank_after, Assembles}
+use Rattle.assembling.specs.Assemble.{assemble_checks, fault_of, answer_by, answer_of, bank_after, Assembles}
 use Rattle.assembling.specs.internal.Looking.{text_fault, Looked}
 
 -- a rule at each line is broken first at the first line that breaks it

@@ -25,5 +25,7 @@ pub extern "C" fn cesca_run_busy(
 ) -> BusyNumbers
     ensures { BusyNumbered (call opcodes.now arguments.now keys.now budget (state_of start) ram.old stack.old roll.old) (records counters.old page.old) result ram.new stack.new roll.new counters.new page.new }
 {
-    busy::cesca_run_busy(opcodes, arguments, keys, ram, stack, roll, counters, page, budget, start)
+    busy::cesca_run_busy(
+        opcodes, arguments, keys, ram, stack, roll, counters, page, budget, start,
+    )
 }

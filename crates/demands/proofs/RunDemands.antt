@@ -4,9 +4,9 @@ use mathlib.Core.Path.{◌≡◌, refl, sym, ap, ◌∙◌, subst}
 use Prim.Native.Nat.{ℕ}
 use mathlib.Core.List.{List}
 use Rattle.slices.specs.Checks.{NoneBroken}
-use Rattle.model.specs.Run.{Call, machine_of, Ended, run_of, reported, refused_of, Outcome, refusal_of, call_of, answer_number}
+use Rattle.model.specs.Run.{Call, machine_of, Ended, run_of, reported, Outcome, refusal_of, call_of, answer_number}
 use Rattle.model.specs.RunPromise.{Counted}
-use Rattle.model.specs.Time.{tenths_of, time_of, time_number}
+use Rattle.model.specs.Time.{time_of, time_number}
 use Rattle.model.specs.declared.Answer.{Answer}
 use Rattle.model.specs.declared.Answer.TheVariants.{Refused, Ran}
 use Rattle.model.specs.declared.RunningTime.{RunningTime}
@@ -18,8 +18,8 @@ use Rattle.model.proofs.Promises.{by_precheck, checks_pass, passed_checks, passe
 use Rattle.run_numbers.specs.Runs.{stop_number, run_numbers, RunNumbered, time_numbers, TimeNumbered}
 use Rattle.run_numbers.specs.declared.RunNumbers.{RunNumbers}
 use Rattle.run_numbers.specs.declared.TimeNumbers.{TimeNumbers}
-use Rattle.demands.specs.First.{run_rules, only_number, FourStops, halted, spent, unsettled, full, FirstOfRun, time_rules, FirstOfTime}
-use Rattle.demands.specs.Second.{stop_numbered, RunReported, SecondOfRun}
+use Rattle.demands.specs.First.{run_rules, only_number, FourStops, halted, spent, unsettled, full, FirstOfRun, FirstOfTime}
+use Rattle.demands.specs.Second.{stop_numbered, SecondOfRun}
 
 number_is : (a : Answer) (s : State) → (run_numbers a s).0 ≡ answer_number a
 number_is (Refused y) s = refl

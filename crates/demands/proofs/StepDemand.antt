@@ -1,11 +1,9 @@
 -- The second demand of a step, from the equation that the step's contract is.
 -- Assumes nothing.
-use mathlib.Core.Path.{◌≡◌, ap, ◌∙◌}
+use mathlib.Core.Path.{◌≡◌, ap}
 use Prim.Native.Nat.{ℕ}
-use mathlib.Core.List.{List}
 use Rattle.model.specs.Run.{verdict_of, attempt, attempt_of}
 use Rattle.model.specs.Step.{Setting, Machine, instr_at, applied_of, step_of}
-use Rattle.model.specs.declared.State.{State}
 use Rattle.model.specs.declared.Verdict.{Verdict}
 use Rattle.model.specs.declared.Verdict.TheVariants.{Go}
 use Rattle.model.proofs.Attempt.{attempt_verdict, attempt_made, attempt_prevented}

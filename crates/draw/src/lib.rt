@@ -29,12 +29,7 @@ fn sizes(opcodes: &[u8], arguments: &[u8], sheet: &[u8], list: &[u8]) -> u8
 
 // 0 and the number of routines, with the sheet and the list of two banks drawn into the buffers,
 // all of both; or the number of a refusal and 0, with both as they were.
-pub fn cesca_draw(
-    opcodes: &[u8],
-    arguments: &[u8],
-    sheet: &mut [u8],
-    list: &mut [u8],
-) -> Drawing
+pub fn cesca_draw(opcodes: &[u8], arguments: &[u8], sheet: &mut [u8], list: &mut [u8]) -> Drawing
     ensures { DrawnAs (lent opcodes.now arguments.now sheet.old list.old) (outcome result.0 result.1 sheet.new list.new) }
 {
     let fault = sizes(opcodes, arguments, sheet, list);

@@ -3,17 +3,16 @@
 use Prim.Native.Nat.{ℕ, zero, suc, ◌+◌, ◌-◌, ◌%◌, ◌≤◌, ◌<◌, min}
 use native.Mathlib.Omega.{arith}
 use mathlib.Core.Path.{◌≡◌, refl, sym, ap, ◌∙◌}
-use mathlib.Core.Bool.{Bool, true, false, cond}
+use mathlib.Core.Bool.{Bool}
 use mathlib.Core.List.{List, [], ◌∷◌}
-use lib.Dec.{eqb, ltb}
+use lib.Dec.{eqb}
 use lib.ListN.{length, get_or, take, drop, set, length-set, length-drop}
 use lib.Seq.{get_or-set_same, get_or-set_other, take_all}
-use borrow.Author.Tests.{eq-eqb, ne_eqb, eqb-true, eqb-false, ltb-true, ltb-false}
+use borrow.Author.Tests.{eq-eqb, ne_eqb, eqb-true, eqb-false}
 use Rattle.slices.proofs.Bools.{by_test}
-use Rattle.labels.specs.declared.Survey.{Survey}
 use Rattle.labels.specs.Lines.{lines_of, size_of}
-use Rattle.labels.specs.internal.Search.{cut_of, first_line, more, count_from, Addresses, IsLine, Inspected}
-use Rattle.labels.proofs.Cuts.{AtLine, this_line, lines_over}
+use Rattle.labels.specs.internal.Search.{cut_of, more, count_from, Addresses, IsLine, Inspected}
+use Rattle.labels.proofs.Cuts.{this_line, lines_over}
 use Rattle.labels.proofs.Searches.{Searching, search_starts, search_hits, search_goes, search_ends}
 
 abbrev is_bad : List ℕ → ℕ → Bool

@@ -1,9 +1,9 @@
 // The lines of a text, how many words they stand for, and the labels that they give and use.
 #![tactic(auto)]
 
-ghost use Rattle.std.specs.Prelude.{◌≡◌, Bool, false, length, take, drop, set, ◌+◌, ◌-◌, ◌≤◌, ◌<◌, min};
+ghost use Rattle.std.specs.Prelude.{◌≡◌, false, length, take, drop, set, ◌+◌, ◌-◌, ◌≤◌, ◌<◌, min};
 ghost use Rattle.spelling.specs.internal.Rows.{table_bytes};
-ghost use Rattle.labels.specs.Lines.{lines_of, label_size, label_of, line_of, size_of, name_of};
+ghost use Rattle.labels.specs.Lines.{lines_of, label_size, label_of, line_of, size_of};
 ghost use Rattle.labels.specs.Labels.{same, given_at, repeats, misses};
 ghost use Rattle.labels.specs.internal.Search.{cut_of, bad_label, more, slots, hash_of, starts_after, numbers_after, Index, Inspected, WordsOf, NewIndex, IsLine};
 

@@ -1,9 +1,9 @@
 -- What was counted before does not matter to what is done: verdicts, steps and runs go on alike from other counts of steps and cycles.
 -- Assumes nothing.
-use mathlib.Core.Path.{◌≡◌, refl, sym, ap, ◌∙◌}
+use mathlib.Core.Path.{◌≡◌, refl, ◌∙◌}
 use Prim.Native.Nat.{ℕ, zero, suc, ◌+◌}
 use native.Mathlib.Nat.{add_assoc}
-use Rattle.model.specs.Run.{Ended, ended, verdict_of, verdict_at, run_of}
+use Rattle.model.specs.Run.{ended, verdict_of, verdict_at, run_of}
 use Rattle.model.specs.Step.{Setting, Machine, machine_at, applied_of, step_of}
 use Rattle.model.proofs.Runs.{by_verdict, run_stops, run_goes, none_left}
 

@@ -1,18 +1,17 @@
 -- A run and a running time keep their promises: the first cause is the first broken rule, and what is accepted is counted by its trace.
 -- Assumes nothing.
-use mathlib.Core.Path.{◌≡◌, refl, ap, ◌∙◌}
-use mathlib.Core.Bool.{Bool, true, false, cond}
+use mathlib.Core.Path.{◌≡◌, refl, ◌∙◌}
 use mathlib.Core.List.{List, [], ◌∷◌}
-use Prim.Native.Nat.{ℕ, ◌+◌, ◌<◌, ◌≤◌}
+use Prim.Native.Nat.{ℕ, ◌<◌, ◌≤◌}
 use native.Mathlib.Nat.{zero-add}
 use native.Mathlib.Omega.{arith}
 use borrow.Author.Tests.{ltb-false}
 use Rattle.slices.specs.Checks.{NoneBroken, first_broken, FirstViolation}
 use Rattle.slices.proofs.Bools.{by_test}
 use Rattle.slices.proofs.Checks.{Numbered, first_violation}
-use Rattle.model.specs.Run.{run_of, trace_of, Call, Outcome, machine_of, reported, refused_of, Cause, max_budget, causes, first_cause, refusal_of, outcome_by, call_of, refusal_number, answer_number, checks_of, run_checks}
-use Rattle.model.specs.RunPromise.{Stops, Unchanged, Counted, LengthsKept, RunPromise}
-use Rattle.model.specs.Time.{tenths_of, bad_clock, bad_cycles, time_of, time_number, time_checks, TimePromise}
+use Rattle.model.specs.Run.{run_of, Call, Outcome, machine_of, reported, refused_of, Cause, max_budget, causes, first_cause, refusal_of, call_of, refusal_number, checks_of, run_checks}
+use Rattle.model.specs.RunPromise.{Counted, LengthsKept, RunPromise}
+use Rattle.model.specs.Time.{bad_clock, bad_cycles, time_of, time_number, time_checks, TimePromise}
 use Rattle.model.specs.declared.Precheck.{Precheck}
 use Rattle.model.specs.declared.Precheck.TheVariants.{Passed, Failed}
 use Rattle.model.specs.declared.Refusal.{Refusal}

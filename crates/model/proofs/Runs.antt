@@ -1,7 +1,7 @@
 -- How a run goes on: it ends at a stop, and else goes on with one step less; a halted machine stays; a run in two parts.
 -- Assumes nothing.
-use mathlib.Core.Path.{◌≡◌, refl, sym, ap, ◌∙◌}
-use mathlib.Core.Bool.{Bool, true, false, cond}
+use mathlib.Core.Path.{◌≡◌, refl, ap, ◌∙◌}
+use mathlib.Core.Bool.{true, cond}
 use Prim.Native.Nat.{ℕ, zero, suc, ◌+◌}
 use native.Mathlib.Nat.{suc-add, zero-add, add-zero}
 use lib.Dec.{eqb-suc-zero}

@@ -1,14 +1,13 @@
 -- What a run reports is its trace: its steps are the trace's length, its cycles the sum of the cycles of the instructions there.
 -- Assumes nothing.
 use mathlib.Core.Path.{◌≡◌, sym, ap, ◌∙◌}
-use mathlib.Core.List.{List, [], ◌∷◌}
+use mathlib.Core.List.{[], ◌∷◌}
 use Prim.Native.Nat.{ℕ, zero, suc, ◌+◌, ◌≤◌, zero-le, suc-le-suc}
 use native.Mathlib.Nat.{add-zero, add_assoc, le_refl}
 use native.Mathlib.Omega.{arith}
 use lib.ListN.{length}
-use Rattle.isa.specs.Table.{cycles_of}
 use Rattle.model.specs.Run.{verdict_at, run_of, trace_of, cycles_in}
-use Rattle.model.specs.Step.{Setting, Machine, next_instr, step_of}
+use Rattle.model.specs.Step.{Setting, Machine, step_of}
 use Rattle.model.specs.declared.Stop.{Stop}
 use Rattle.model.specs.declared.Verdict.TheVariants.{Go, Stopped}
 use Rattle.model.proofs.Kept.{step_counts, step_pays}

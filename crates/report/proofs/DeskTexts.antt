@@ -10,7 +10,6 @@ use borrow.Author.Tests.{eq-eqb, ne_eqb}
 use Rattle.model.specs.Run.{Outcome, call_of}
 use Rattle.model.specs.State.{start_state}
 use Rattle.model.specs.declared.State.{State}
-use Rattle.rules.specs.Grounds.{admit_of}
 use Rattle.rules.specs.Sheet.{listing, need}
 use Rattle.admission.specs.Admission.{Admission}
 use Rattle.report.specs.Answered.{RunEnds, Answered}

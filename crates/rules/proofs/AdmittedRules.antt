@@ -4,9 +4,9 @@ use Prim.Native.Nat.{ℕ, zero, suc, ◌+◌, ◌*◌, ◌/◌, ◌%◌, ◌≤�
 use native.Mathlib.Nat.{pos_of_ne-zero, zero-add}
 use native.Mathlib.Omega.{arith}
 use lib.Arith.{le-zero}
-use mathlib.Core.Path.{◌≡◌, refl, sym, subst}
+use mathlib.Core.Path.{◌≡◌, sym, subst}
 use mathlib.Core.List.{List, [], ◌∷◌, ◌++◌}
-use mathlib.Core.Bool.{Bool, true, false, not, cond, ◌&&◌, ◌||◌}
+use mathlib.Core.Bool.{Bool, true, false, not, ◌||◌}
 use lib.ListN.{length, get_or, get_or-eq_default}
 use lib.Dec.{eqb, ltb}
 use borrow.Author.Tests.{eqb-true, eqb-false, ltb-false, ltb-true, not-false}
@@ -17,8 +17,8 @@ use Rattle.isa.specs.declared.Class.TheVariants as class
 use Rattle.model.specs.Run.{tests_in}
 use Rattle.model.specs.Step.{instr_at}
 use Rattle.slices.proofs.Bools.{by_test, neither}
-use Rattle.slices.specs.Checks.{NoneBroken, Check, check, first_broken}
-use Rattle.rules.specs.Grounds.{each, find, callee, is_jump_reg, is_pop_or_swap, is_return, of_call, bad_banks, bad_sheet, bad_list, bad_blank, bad_routine, bad_start, bad_entry, bad_successor, any_bad, rules_at, address_checks_by, checks_by, admit_by, address_checks, checks, admit_of}
+use Rattle.slices.specs.Checks.{NoneBroken, Check, check}
+use Rattle.rules.specs.Grounds.{each, find, callee, is_jump_reg, is_pop_or_swap, is_return, bad_blank, bad_routine, bad_start, bad_entry, bad_successor, any_bad, rules_at, address_checks_by, checks_by, admit_by, address_checks, checks, admit_of}
 use Rattle.rules.specs.Sheet.{Listing, word, described, marked, routine, depth, routines, entry, need, class_at}
 use Rattle.rules.specs.Successors.{Successor, successors}
 use Rattle.rules.proofs.CheckLists.{numbered_append, numbered_each, none_append, none_each}

@@ -17,7 +17,7 @@ use Rattle.isa.specs.declared.Instr.{Instr}
 use Rattle.isa.specs.declared.Instr.TheVariants.{Alu, AddImm, AluNone, CmpImm, MaskImm, MaskIn, MovImm, MovIn, Ack, StoreAddr, StoreReg, Push, LoadAddr, LoadReg, Pop, Swap, Jmp, JmpReg, Call, Ret, Jz, Jnz, Jc, Jnc, Jv, Jnv, Jlz, Jp, Jgz, Jleu, Jlt, Jle, LcdCmd, LcdImm, LcdReg, LcdMem, OutReg, OutMem, Hlt, Nop}
 use Rattle.isa.specs.declared.OverflowEffect.{OverflowEffect}
 use Rattle.isa.specs.declared.OverflowEffect.TheVariants.{Keeps, Settles, Unsettles}
-use Rattle.model.specs.Plan.{Plan, value_of, differ, plan_of}
+use Rattle.model.specs.Plan.{value_of, differ, plan_of}
 use Rattle.model.specs.State.{next_address, sp_after_push, sp_after_pop, register, with_pc, with_position}
 use Rattle.model.specs.Step.{fetched, stack_after}
 use Rattle.model.specs.declared.State.{State}

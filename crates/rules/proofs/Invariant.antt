@@ -7,8 +7,8 @@ use native.Mathlib.Numerals.{add-one}
 use native.Mathlib.Omega.{arith}
 use mathlib.Core.Path.{◌≡◌, refl, sym, ap, ◌∙◌, subst}
 use mathlib.Core.Logic.{⊎_elim}
-use mathlib.Core.List.{List, [], ◌∷◌}
-use mathlib.Core.Bool.{Bool, true, false}
+use mathlib.Core.List.{List, ◌∷◌}
+use mathlib.Core.Bool.{Bool, true}
 use lib.ListN.{length, set, length-set}
 use Rattle.slices.specs.Lists.{Bytes}
 use Rattle.alu.specs.Alu.{is_settled}
@@ -20,14 +20,14 @@ use Rattle.isa.specs.declared.OverflowEffect.TheVariants.{Keeps, Settles, Unsett
 use Rattle.model.specs.State.{next_address, sp_after_push, sp_after_pop, register}
 use Rattle.model.specs.Step.{Setting, Machine, instr_at, top_of, applied_of, step_of}
 use Rattle.slices.proofs.Bools.{by_test}
-use Rattle.rules.specs.Demand.{LastByte, last_byte, LastReturnTo, last_return_to, LastFits, SpMoves, StepHolds}
+use Rattle.rules.specs.Demand.{last_byte, LastReturnTo, last_return_to, LastFits, SpMoves, StepHolds}
 use Rattle.rules.specs.Grounds.{callee}
 use Rattle.rules.specs.Sheet.{Listing, described, marked, routine, depth, need, entry, class_at}
 use Rattle.rules.specs.Successors.{Successor, mark_after}
 use Rattle.rules.specs.Tally.{Entry, byte, return_to, tally_of, tally, stores_of}
-use Rattle.rules.proofs.AdmittedRules.{Admitted, Rules, EntryFits, Fits, CallFits}
-use Rattle.rules.proofs.ClassActs.{VActs, Moves, Acts, stored, acts, stores}
-use Rattle.rules.proofs.Frames.{Frames, pushed, called, frames_bound, byte_of, Held, held_below, held_push, held_last, LastOwn, last_own, LastReturn, last_return, own_last, return_last}
+use Rattle.rules.proofs.AdmittedRules.{Admitted, Rules, EntryFits, Fits}
+use Rattle.rules.proofs.ClassActs.{VActs, Acts, stored, acts, stores}
+use Rattle.rules.proofs.Frames.{Frames, pushed, called, frames_bound, byte_of, Held, held_push, held_last, LastOwn, last_own, LastReturn, last_return, own_last, return_last}
 use Rattle.rules.proofs.Tests.{absurd_bool}
 
 -- V after a step whose effect on it is e, where it may be marked

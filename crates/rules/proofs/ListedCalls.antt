@@ -5,15 +5,15 @@ use native.Mathlib.Omega.{arith}
 use mathlib.Core.Path.{◌≡◌, refl, sym, ◌∙◌}
 use mathlib.Core.List.{List}
 use mathlib.Core.Bool.{Bool, true, false, cond, ◌||◌}
-use Rattle.model.specs.Run.{Call, Outcome, reported, run_of, bad_banks, bad_position, bad_budget, refusal_of, refused_of, call_of}
+use Rattle.model.specs.Run.{Call, Outcome, reported, run_of, bad_banks, refusal_of, refused_of, call_of}
 use Rattle.model.specs.Step.{Program}
 use Rattle.model.specs.declared.Precheck.{Precheck}
 use Rattle.model.specs.declared.Precheck.TheVariants.{Passed, Failed}
 use Rattle.model.specs.declared.Refusal.{Refusal}
 use Rattle.model.specs.declared.Refusal.TheVariants.{BadBank}
-use Rattle.slices.proofs.Bools.{by_test, neither}
+use Rattle.slices.proofs.Bools.{neither}
 use Rattle.slices.specs.Sizes.{bad_bank}
-use Rattle.rules.specs.RunLists.{Snapshot, Buffer, own, foreign, ListedRun, lent, start_from, call_in, outcome_of, run_setting, run_machine}
+use Rattle.rules.specs.RunLists.{Snapshot, Buffer, own, foreign, ListedRun, lent, call_in, outcome_of, run_setting, run_machine}
 use Rattle.rules.proofs.Tests.{absurd_bool}
 
 own_bank : (b : Buffer) (l : List ℕ) → bad_bank (lent b l) ≡ false → b ≡ own

@@ -6,7 +6,7 @@ use native.Mathlib.Omega.{arith}
 use mathlib.Core.Path.{◌≡◌, refl, sym, ap, ◌∙◌, subst}
 use mathlib.Core.Logic.{◌≢◌}
 use mathlib.Core.List.{List, [], ◌∷◌, ◌++◌}
-use mathlib.Core.Bool.{Bool, true, false}
+use mathlib.Core.Bool.{true}
 use lib.Dec.{eqb, ltb}
 use lib.ListN.{length, get_or, set, length-set, get_or-eq_default}
 use lib.Seq.{get_or-set_same, get_or-set_other}
@@ -20,13 +20,12 @@ use Rattle.model.specs.Run.{verdict_at, Ended, ended, run_of, trace_of, Call, Ou
 use Rattle.model.specs.Step.{Core, Machine, instr_at, applied_of, step_of}
 use Rattle.model.specs.declared.Refusal.{Refusal}
 use Rattle.model.specs.declared.Stop.{Stop}
-use Rattle.model.specs.declared.Verdict.TheVariants.{Go, Stopped}
 use Rattle.slices.proofs.Bools.{by_test}
 use Rattle.slices.specs.Sizes.{bad_bank}
 use Rattle.model.proofs.Promises.{by_precheck}
 use Rattle.model.proofs.Runs.{by_verdict, none_left, run_stops, run_goes}
 use Rattle.model.proofs.Traces.{trace_stops, trace_goes}
-use Rattle.rules.specs.Demand.{last_byte, last_return_to, LastFits, AgreeAt, addresses_of, stored_by, Agree, AgreeBy, AllAgree}
+use Rattle.rules.specs.Demand.{last_byte, last_return_to, LastFits, AgreeAt, addresses_of, stored_by, AgreeBy, AllAgree}
 use Rattle.rules.specs.RunLists.{Snapshot, Start, resume, restart, Buffer, own, foreign, ListedRun, lent, call_in, outcome_of, left_by, Event, starts, steps, steps_in, start_events, run_machine, events_by, run_events}
 use Rattle.rules.specs.Sheet.{Listing, class_at}
 use Rattle.rules.specs.Tally.{Entry, byte, return_to, tally, Store, stores_of}

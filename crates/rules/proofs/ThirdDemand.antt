@@ -1,6 +1,6 @@
 -- THE THIRD DEMAND, proved: an admitted listing's start is safe, runs keep it so, and old stack contents never show.
 -- Assumes nothing.
-use mathlib.Core.Path.{◌≡◌, sym, ◌∙◌}
+use mathlib.Core.Path.{sym, ◌∙◌}
 use mathlib.Core.List.{[]}
 use Rattle.rules.specs.Demand.{Demand}
 use Rattle.rules.proofs.AdmittedRules.{admitted}

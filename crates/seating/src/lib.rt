@@ -4,7 +4,7 @@
 
 ghost use Rattle.std.specs.Prelude.{◌≡◌, ◌≤◌, ◌<◌, length};
 ghost use Rattle.seats.specs.Room.{max_seats};
-ghost use Rattle.seats.specs.Turn.{turn_call, max_slice, turn_of};
+ghost use Rattle.seats.specs.Turn.{turn_call, max_slice};
 ghost use Rattle.seats.specs.internal.Places.{SeatPlaces};
 ghost use Rattle.scheduling.specs.Numbers.{room_of};
 ghost use Rattle.seating.specs.Reports.{TurnedAs};

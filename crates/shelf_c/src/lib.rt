@@ -4,7 +4,7 @@
 ghost use Rattle.rules.specs.Sheet.{listing};
 ghost use Rattle.shelf.specs.Exported.{ShelvedAs, OpenedAs};
 
-use shelf::{ShelvedNumbers, OpenedNumbers};
+use shelf::{OpenedNumbers, ShelvedNumbers};
 
 // 0 and the length of a listing's file, which stands in front of what the buffer held; or the
 // number of a refusal and 0, with the buffer as it was.

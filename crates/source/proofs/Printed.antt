@@ -1,14 +1,14 @@
 -- A text whose lines are printed forms assembles to them: such a line gives no label and names none, and stands for the one form that was printed.
 -- Assumes nothing.
-use Prim.Native.Nat.{ℕ, zero, suc, ◌+◌, ◌-◌, ◌≤◌, ◌<◌}
+use Prim.Native.Nat.{ℕ, ◌+◌, ◌-◌, ◌≤◌, ◌<◌}
 use native.Mathlib.Omega.{arith}
 use mathlib.Core.Path.{◌≡◌, refl, sym, ap, ◌∙◌}
-use mathlib.Core.Bool.{Bool, true, false, cond, not, ◌&&◌, ◌||◌}
-use mathlib.Core.List.{List, [], ◌∷◌, ◌++◌}
-use lib.Dec.{eqb, leb, ltb}
+use mathlib.Core.Bool.{Bool, true, false, not, ◌&&◌, ◌||◌}
+use mathlib.Core.List.{List, [], ◌∷◌}
+use lib.Dec.{eqb, leb}
 use lib.ListN.{length, get_or, take, drop, replicate}
 use lib.Seq.{take-append_seam}
-use borrow.Author.Tests.{eq-eqb, ne_eqb, eqb-true, eqb-false, le-ltb, not-true}
+use borrow.Author.Tests.{eq-eqb, le-ltb, not-true}
 use Rattle.slices.specs.Lists.{mapped}
 use Rattle.slices.specs.Sizes.{bad_bank}
 use Rattle.slices.proofs.Bools.{by_test, both}
@@ -33,14 +33,10 @@ use Rattle.printing.proofs.RoundTrip.{places_of, line_printed, no_name, forms_pr
 use Rattle.printing.proofs.Plain.{plain, text_plain, text_some}
 use Rattle.printing.proofs.ValidFields.{row_told}
 use Rattle.labels.specs.Lines.{on_first, lines_of, label_size, line_of, name_in, name_of, size_in, size_of, word_count}
-use Rattle.labels.specs.Labels.{repeats, misses}
 use Rattle.labels.specs.internal.Search.{first_line, bad_line, bad_label, is_faulty}
-use Rattle.labels.proofs.Names.{label_test}
 use Rattle.labels.proofs.Sizes.{row_length}
-use Rattle.words.specs.Program.{target_of, forms_in, forms_from, program_of, opcode_of, argument_of, bank_of}
-use Rattle.assembling.specs.declared.Assembled.{Assembled}
-use Rattle.assembling.specs.Assemble.{fault_of, answer_by, answer_of}
-use Rattle.assembling.specs.internal.Looking.{text_fault}
+use Rattle.words.specs.Program.{target_of, forms_in, forms_from, program_of}
+use Rattle.assembling.specs.Assemble.{fault_of, answer_of}
 use Rattle.assembling.proofs.Faults.{fault_is, good_fault}
 use Rattle.source.specs.Source.{AssemblesTo, Printable, AllPrintable, ReadsPrinted}
 

@@ -1,7 +1,7 @@
 // 003's spellings of its instructions and macros in one table, and what a word of a line can be.
 #![tactic(auto)]
 
-ghost use Rattle.std.specs.Prelude.{◌≡◌, Bool, length, get_or, drop, ◌+◌, ◌≤◌};
+ghost use Rattle.std.specs.Prelude.{◌≡◌, length, get_or, drop, ◌+◌, ◌≤◌};
 ghost use Rattle.spelling.specs.Spellings.{pattern_of};
 ghost use Rattle.spelling.specs.Words.{in_word, word_length, digit_of, decimal_of, numeral_of, operand_of};
 ghost use Rattle.spelling.specs.internal.Rows.{table_bytes};

@@ -2,8 +2,7 @@
 -- Assumes nothing.
 use Prim.Native.Nat.{ℕ, ◌+◌}
 use mathlib.Core.Path.{◌≡◌, refl, sym, ap, ◌∙◌}
-use mathlib.Core.List.{List, [], ◌∷◌}
-use native.Mathlib.Omega.{arith}
+use mathlib.Core.List.{List, []}
 use native.Mathlib.Nat.{add-zero}
 use lib.ListN.{take, drop}
 use Rattle.isa.specs.Encode.{encode_of}
@@ -14,7 +13,7 @@ use Rattle.spelling.specs.Spellings.{forms_of}
 use Rattle.reading.specs.declared.Matched.{Matched}
 use Rattle.reading.specs.declared.Matched.TheVariants.{Fits, Misfit}
 use Rattle.spelling.specs.declared.Places.{Places}
-use Rattle.labels.specs.Lines.{lines_of, line_of, size_of}
+use Rattle.labels.specs.Lines.{lines_of, line_of}
 use Rattle.labels.specs.internal.Search.{WordsOf}
 use Rattle.labels.proofs.Sizes.{size_fits, size_misfits}
 use Rattle.words.specs.Program.{opcode_from, argument_from, opcode_of, argument_of, target_by, target_of, forms_in}

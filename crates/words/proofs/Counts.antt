@@ -2,22 +2,17 @@
 -- Assumes nothing.
 use Prim.Native.Nat.{ℕ, zero, suc, ◌+◌, ◌-◌, ◌%◌, ◌≤◌, ◌<◌}
 use native.Mathlib.Omega.{arith}
-use mathlib.Core.Path.{◌≡◌, refl, sym, ap, ◌∙◌}
-use mathlib.Core.Bool.{Bool, true, false, cond}
-use mathlib.Core.List.{List, [], ◌∷◌, ◌++◌}
+use mathlib.Core.Path.{◌≡◌, refl, ap, ◌∙◌}
+use mathlib.Core.List.{List, [], ◌∷◌}
 use lib.Dec.{eqb, ltb}
-use lib.ListN.{length, get_or, take, drop, length-append}
-use borrow.Author.Tests.{ltb-true, ltb-false, lt-ltb, le-ltb, eqb-true, eqb-false, eq-eqb}
+use lib.ListN.{length, get_or, take, length-append}
+use borrow.Author.Tests.{ltb-true, ltb-false, eqb-false}
 use Rattle.slices.proofs.Bools.{by_test}
-use Rattle.isa.specs.declared.Instr.{Instr}
-use Rattle.spelling.specs.Spellings.{forms_of}
 use Rattle.reading.specs.declared.Matched.{Matched}
 use Rattle.reading.specs.declared.Matched.TheVariants.{Fits, Misfit}
-use Rattle.spelling.specs.declared.Places.{Places}
-use Rattle.slices.proofs.Tables.{same_below}
 use Rattle.labels.specs.Lines.{lines_of, label_of, line_of, size_in, size_of, word_count}
 use Rattle.labels.specs.Labels.{same, given_at, address_of}
-use Rattle.labels.specs.internal.Search.{first_line, more, count_from, Addresses}
+use Rattle.labels.specs.internal.Search.{first_line, more, count_from}
 use Rattle.labels.proofs.Sizes.{matched_row, row_length}
 use Rattle.words.specs.Program.{forms_in, forms_from}
 use Rattle.words.specs.internal.Storing.{Ready}

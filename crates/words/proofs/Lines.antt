@@ -6,7 +6,7 @@ use native.Mathlib.Omega.{arith}
 use native.Mathlib.Numerals.{add-one}
 use mathlib.Core.Path.{◌≡◌, refl, sym, ap, ◌∙◌}
 use mathlib.Core.List.{List, [], ◌∷◌, ◌++◌, append_assoc, append-nil}
-use lib.ListN.{length, get_or, take, drop, set, replicate, drop_of_length-le, length-append, length-replicate, length-drop, length-set, replicate-append-replicate}
+use lib.ListN.{length, get_or, take, drop, set, drop_of_length-le, length-append, length-replicate, length-drop, replicate-append-replicate}
 use lib.Seq.{drop-cons, set_at}
 use Rattle.isa.specs.declared.Instr.{Instr}
 use Rattle.labels.specs.Lines.{lines_of, line_of, size_of, word_count}

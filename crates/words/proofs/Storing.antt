@@ -3,10 +3,9 @@
 use Prim.Native.Nat.{ℕ, zero, suc, ◌+◌, ◌-◌, ◌≤◌, ◌<◌}
 use native.Mathlib.Omega.{arith}
 use mathlib.Core.Path.{◌≡◌, refl, sym, ap, ap₂, ◌∙◌}
-use mathlib.Core.Bool.{Bool, true, false}
-use mathlib.Core.List.{List, [], ◌∷◌, ◌++◌, append-nil}
-use lib.ListN.{length, get_or, take, drop, set, replicate, length-append, length-replicate}
-use lib.Seq.{append_snoc, set-append_seam, take_all, take_at, take-append-add}
+use mathlib.Core.List.{List, [], ◌∷◌, ◌++◌}
+use lib.ListN.{length, get_or, take, set, replicate, length-append}
+use lib.Seq.{append_snoc, set-append_seam, take-append-add}
 use Rattle.slices.specs.Lists.{mapped}
 use Rattle.slices.specs.Parts.{padded}
 use Rattle.isa.specs.declared.Instr.{Instr}

@@ -50,11 +50,12 @@ fn requires(code: &str, at: usize) -> Option<usize> {
 }
 
 /// The word that makes a brace after this text a clause's and not the body's: `requires` or
-/// `ensures`, or any word alone on its line.
+/// `ensures`, with or without the clause's name behind it, or any word alone on its line.
 fn clause(before: &str) -> Option<&str> {
     let alone = last_line(before).trim();
-    let last = alone.split_whitespace().last()?;
-    (last == alone || ["requires", "ensures"].contains(&last)).then_some(last)
+    let words: Vec<&str> = alone.split_whitespace().collect();
+    let kind = words.iter().rev().take(2).find(|word| ["requires", "ensures"].contains(word));
+    kind.copied().or_else(|| words.last().copied().filter(|last| *last == alone))
 }
 
 /// The place after the bracket that closes the first one from here on.

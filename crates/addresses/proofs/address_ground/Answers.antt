@@ -1,5 +1,5 @@
 -- 8, and then the rules by class; a word that is not described is passed over.
-use Rattle.std.proofs.Common.{sym, ap, ◌∙◌, rules}
+use Rattle.std.proofs.Common.{sym, ap, ◌∙◌}
 use borrow.Author.Tests.{not-true, not-false}
 use Rattle.sheets.specs.declared.Word.{Word}
 use Rattle.addresses.proofs.AtAddress.{undescribed_answer, described_answer}

@@ -1,5 +1,4 @@
 -- The tests of 10, 13 and 16 at a conditional jump.
-use Rattle.std.proofs.Common.{rules}
 use Rattle.addresses.proofs.ClassGrounds.{branch}
 use Rattle.addresses.proofs.branch_ground.Goals as goal
 

@@ -1,5 +1,4 @@
 -- The tests of 13 to 16 at a call.
-use Rattle.std.proofs.Common.{rules}
 use Rattle.addresses.proofs.Callees.{call}
 use Rattle.addresses.proofs.call_ground.Goals as goal
 

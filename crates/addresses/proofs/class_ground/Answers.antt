@@ -1,5 +1,5 @@
 -- An arm a class; a plain instruction's rules do not look at the list.
-use Rattle.std.proofs.Common.{refl, rules}
+use Rattle.std.proofs.Common.{refl}
 use Rattle.slices.specs.Checks.{first_broken}
 use Rattle.rules.specs.Sheet.{word, described, marked, routine, depth}
 use Rattle.addresses.proofs.ClassGrounds as tests

@@ -1,5 +1,4 @@
 -- The tests of 13 and 16 at the next word.
-use Rattle.std.proofs.Common.{rules}
 use Rattle.addresses.proofs.ClassGrounds.{next_word}
 use Rattle.addresses.proofs.next_word_ground.Goals as goal
 

@@ -1,5 +1,4 @@
 -- The stages compute admission, and the two demands hold of it.
-use borrow.Author.Rules.{rules}
 use Rattle.rules.specs.Sheet.{listing}
 use Rattle.admission.proofs.Answer.{admission}
 use Rattle.admission.proofs.cesca_admit.Goals as goal

@@ -1,5 +1,4 @@
 -- 1 before the text is looked at; a text without a fault is stored in banks of zeros.
-use borrow.Author.Rules.{rules}
 use Rattle.assembling.proofs.Faults.{bad_opcodes, bad_arguments, refused_text, filled}
 use Rattle.assembling.proofs.assemble.Goals as goal
 

@@ -1,5 +1,4 @@
 -- 24, then 25, then 26, by what the three looks at the text tell.
-use borrow.Author.Rules.{rules}
 use Rattle.assembling.proofs.Faults.{bad_looked, fault_looked, long_looked, good_looked}
 use Rattle.assembling.proofs.look.Goals as goal
 

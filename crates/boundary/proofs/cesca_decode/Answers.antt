@@ -2,7 +2,6 @@
 use mathlib.Core.Path.{ap, ◌∙◌}
 use Rattle.numbers.specs.Numbers.{fields_of}
 use Rattle.numbers.proofs.FieldsInverse.{fields_inverse}
-use borrow.Author.Rules.{rules}
 use Rattle.boundary.proofs.cesca_decode.Goals as goal
 
 pub returns : goal.returns

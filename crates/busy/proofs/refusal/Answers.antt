@@ -1,6 +1,5 @@
 -- Counters and page first, and then a run's own rules.
 use mathlib.Core.Path.{sym, ◌∙◌}
-use borrow.Author.Rules.{rules}
 use Rattle.busy_runs.proofs.Promises.{good_records, records_refused}
 use Rattle.busy.proofs.refusal.Goals as goal
 

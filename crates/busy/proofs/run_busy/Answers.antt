@@ -1,6 +1,5 @@
 -- The call's rules are prechecked first; a call that passes them is run.
 use mathlib.Core.Path.{refl, sym, ◌∙◌}
-use borrow.Author.Rules.{rules}
 use Rattle.model.specs.declared.Precheck.TheVariants.{Passed, Failed}
 use Rattle.busy_runs.proofs.Promises.{passed_sizes, promised}
 use Rattle.busy.proofs.run_busy.Goals as goal

@@ -1,10 +1,5 @@
 -- The counters from 0 on, the observed run, and the page of what it counted.
-use mathlib.Core.Path.{ap, ◌∙◌}
-use Prim.Native.Nat.{ℕ}
-use borrow.Author.Rules.{rules}
-use lib.ListN.{length, replicate}
 use Rattle.model.specs.Run.{call}
-use Rattle.executions.proofs.Counting.{counters_length}
 use Rattle.busy_runs.specs.Busy.{records}
 use Rattle.busy_runs.proofs.Promises.{made}
 use Rattle.busy.proofs.run_recorded.Goals as goal

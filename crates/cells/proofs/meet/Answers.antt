@@ -3,7 +3,6 @@ use mathlib.Core.Path.{sym, ap, ◌∙◌}
 use Prim.Native.Nat.{ℕ}
 use Rattle.drawings.specs.internal.Cells.{has}
 use Rattle.cells.proofs.Meeting.{met_already, met_now}
-use borrow.Author.Rules.{rules}
 use Rattle.cells.proofs.meet.Goals as goal
 
 pub returns-then-satisfies : goal.returns-then-satisfies

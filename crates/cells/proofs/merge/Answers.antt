@@ -1,7 +1,6 @@
 -- By whether the word is reached.
 use borrow.Author.Tests.{lt-ltb, le-ltb}
 use Rattle.drawings.specs.internal.Cells.{seen, merged}
-use borrow.Author.Rules.{rules}
 use Rattle.cells.proofs.merge.Goals as goal
 
 pub returns-then-w-gt0 : goal.returns-then-w-gt0

@@ -2,7 +2,6 @@
 use Rattle.std.proofs.Common.{◌<◌, arith}
 use Rattle.drawings.specs.internal.Cells.{packed}
 use Rattle.drawings.proofs.Weights.{small}
-use borrow.Author.Rules.{rules}
 use Rattle.cells.proofs.pack.Goals as goal
 
 pub returns : goal.returns

@@ -1,7 +1,6 @@
 -- By the parts of the word.
 use Rattle.std.proofs.Common.{arith, refl}
 use Rattle.drawings.specs.internal.Cells.{seen, has}
-use borrow.Author.Rules.{rules}
 use Rattle.cells.proofs.satisfies.Goals as goal
 
 pub returns : goal.returns

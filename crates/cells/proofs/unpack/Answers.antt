@@ -2,7 +2,6 @@
 use mathlib.Core.Path.{refl}
 use Prim.Native.Nat.{◌/◌}
 use lib.Bits.{and_mask}
-use native.Mathlib.Omega.{arith}
 use Rattle.drawings.specs.internal.Cells.{need_in, depth_in, entry_in, mark_in}
 use Rattle.cells.proofs.unpack.Goals as goal
 

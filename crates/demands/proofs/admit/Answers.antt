@@ -1,6 +1,5 @@
 -- What admission promises, for a list from any start.
 use Rattle.demands.proofs.ListDemand.{list_demand}
-use borrow.Author.Rules.{rules}
 use Rattle.demands.proofs.admit.Goals as goal
 
 pub returns-clause-third : goal.returns-clause-third

@@ -1,7 +1,6 @@
 -- The tables are computed.
 use Rattle.examples.proofs.Answered.{answered, answered_by_both}
 use Rattle.examples.proofs.MarkedRows.{marked_rows}
-use borrow.Author.Rules.{rules}
 use Rattle.demands.proofs.examples.Goals as goal
 
 pub returns-clause-marked : goal.returns-clause-marked

@@ -1,6 +1,5 @@
 -- The two bytes, or the banks as they were.
 use Rattle.demands.proofs.Trips.{put_first}
-use borrow.Author.Rules.{rules}
 use Rattle.demands.proofs.put.Goals as goal
 
 pub returns : goal.returns

@@ -1,6 +1,5 @@
 -- The outcome of the call says each part.
 use Rattle.demands.proofs.RunDemands.{run_first, run_second}
-use borrow.Author.Rules.{rules}
 use Rattle.demands.proofs.run.Goals as goal
 
 pub returns-clause-first : goal.returns-clause-first

@@ -1,6 +1,5 @@
 -- The equation of the step's contract says each part.
 use Rattle.demands.proofs.StepDemand.{step_demand}
-use borrow.Author.Rules.{rules}
 use Rattle.demands.proofs.step.Goals as goal
 
 pub returns : goal.returns

@@ -1,7 +1,6 @@
 -- By the parts of the word.
 use Rattle.drawings.specs.internal.Cells.{seen}
 use Rattle.drawings.specs.internal.Drafts.{is_entry}
-use borrow.Author.Rules.{rules}
 use Rattle.drafting.proofs.is_entry.Goals as goal
 
 pub returns : goal.returns

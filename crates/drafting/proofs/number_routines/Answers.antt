@@ -1,9 +1,7 @@
 -- The count is the rank of the address that the loop has come to.
 use Prim.Native.Nat.{◌-◌}
 use native.Mathlib.Omega.{arith}
-use mathlib.Core.Path.{sym, ◌∙◌}
-use Rattle.drafting.proofs.Numbering.{Numbering, numbers_start, numbers_size, numbers_next, numbers_end}
-use borrow.Author.Rules.{rules}
+use Rattle.drafting.proofs.Numbering.{numbers_start, numbers_next, numbers_end}
 use Rattle.drafting.proofs.number_routines.Goals as goal
 
 pub loop-a-init : goal.loop-a-init

@@ -5,7 +5,6 @@ use Rattle.drawings.specs.declared.Cell.{Cell}
 use Rattle.drawings.specs.internal.Cells.{seen, depth_in}
 use Rattle.drawings.specs.internal.Drafts.{low_byte, high_byte}
 use Rattle.drafting.proofs.SheetBytes.{number_read, number_low, high_reached}
-use borrow.Author.Rules.{rules}
 use Rattle.drafting.proofs.sheet_word.Goals as goal
 
 pub returns-then-w-eq0 : goal.returns-then-w-eq0

@@ -1,6 +1,5 @@
 -- By the two cases of the test.
 use Rattle.drafting.specs.internal.Writing.{rank_after, list_after}
-use borrow.Author.Rules.{rules}
 use Rattle.drafting.proofs.write_entry.Goals as goal
 
 pub returns-then-is_entry : goal.returns-then-is_entry

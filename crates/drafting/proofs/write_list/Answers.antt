@@ -1,10 +1,7 @@
 -- Of each address that the loop has passed the list has what it says of it.
 use Prim.Native.Nat.{◌-◌}
 use native.Mathlib.Omega.{arith}
-use mathlib.Core.Path.{sym, ◌∙◌}
-use mathlib.Core.List.{[]}
-use Rattle.drafting.proofs.Entering.{Entering, enter_start, enter_size, enter_next, enter_few, enter_end}
-use borrow.Author.Rules.{rules}
+use Rattle.drafting.proofs.Entering.{enter_start, enter_next, enter_end}
 use Rattle.drafting.proofs.write_list.Goals as goal
 
 pub loop-a-init : goal.loop-a-init

@@ -1,12 +1,8 @@
 -- The sheet is filled up to the bytes of the address that the loop has come to.
-use Prim.Native.Nat.{◌-◌, ◌*◌}
+use Prim.Native.Nat.{◌-◌}
 use native.Mathlib.Omega.{arith}
-use mathlib.Core.Path.{sym, ap, ◌∙◌}
-use lib.ListN.{length-set}
-use Rattle.drawings.specs.internal.Drafts.{sheet_of}
-use Rattle.slices.proofs.Filling.{Filled}
-use Rattle.drafting.proofs.SheetBytes.{sheet_start, whole_sheet, sheet_next, sheet_end}
-use borrow.Author.Rules.{rules}
+use mathlib.Core.Path.{ap}
+use Rattle.drafting.proofs.SheetBytes.{sheet_start, sheet_next, sheet_end}
 use Rattle.drafting.proofs.write_sheet.Goals as goal
 
 pub loop-a-init : goal.loop-a-init

@@ -1,9 +1,7 @@
 -- Sizes first; then the draft is judged, and copied where it is a drawing.
 use native.Mathlib.Omega.{arith}
-use borrow.Author.Tests.{not-true, not-false}
-use Rattle.drawings.specs.Drawn.{Lent, lent, size_fault}
+use Rattle.drawings.specs.Drawn.{lent, size_fault}
 use Rattle.draw.proofs.Outcomes.{sheet_fits, list_fits, size_refused, none_drawn, all_drawn}
-use borrow.Author.Rules.{rules}
 use Rattle.draw.proofs.cesca_draw.Goals as goal
 
 pub returns-then-fault-ne0 : goal.returns-then-fault-ne0

@@ -1,12 +1,12 @@
 -- The tests of 1, 2 and 3, one after another.
 use mathlib.Core.Path.{◌≡◌}
-use mathlib.Core.Bool.{Bool, true, false, not}
+use mathlib.Core.Bool.{true, false, not}
 use lib.Dec.{eqb}
 use lib.ListN.{length}
 use borrow.Author.Tests.{ne_eqb}
 use Rattle.slices.specs.Checks.{first_broken}
 use Rattle.rules.specs.Grounds.{bad_banks, bad_sheet, max_list_size}
-use Rattle.rules.specs.Sheet.{Listing, listing}
+use Rattle.rules.specs.Sheet.{listing}
 use Rattle.drawings.specs.Drawn.{size_fault}
 use Rattle.draw.proofs.sizes.Goals as goal
 

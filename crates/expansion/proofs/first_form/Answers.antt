@@ -1,8 +1,5 @@
-use borrow.Author.Rules.{rules}
 use borrow.Author.Tests.{lt-ltb}
-use mathlib.Core.Path.{◌≡◌}
-use native.Mathlib.Omega.{arith}
-use Prim.Native.Nat.{◌+◌, ◌-◌}
+use Prim.Native.Nat.{◌-◌}
 use Rattle.spelling.specs.Spellings.{forms_of}
 use Rattle.expansion.proofs.first_form.Goals as goal
 

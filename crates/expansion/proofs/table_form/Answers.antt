@@ -1,4 +1,3 @@
-use borrow.Author.Rules.{rules}
 use borrow.Author.Tests.{lt-ltb, le-ltb, eq-eqb, ne_eqb}
 use Rattle.spelling.specs.Spellings.{table_form}
 use Rattle.expansion.proofs.table_form.Goals as goal

@@ -1,8 +1,5 @@
 -- A byte a turn: those passed are not the last group.
-use borrow.Author.Rules.{rules}
-use Prim.Native.Nat.{◌-◌}
-use lib.ListN.{length}
-use Rattle.groups.proofs.Places.{Passing, pass_starts, pass_here, pass_next, pass_ends}
+use Rattle.groups.proofs.Places.{pass_here, pass_next, pass_ends}
 use Rattle.groups.proofs.last_group.Goals as goal
 
 pub returns-then-file-i-lt128 : goal.returns-then-file-i-lt128

@@ -1,9 +1,7 @@
 -- A group a turn: what is left of the number, written from here, leaves the page of the whole.
 use native.Mathlib.Omega.{arith}
-use borrow.Author.Rules.{rules}
-use mathlib.Core.Path.{refl, ◌∙◌}
-use Rattle.pages.specs.Page.{page}
-use Rattle.groups.proofs.Putting.{Putting, put_starts, put_goes, put_ends}
+use mathlib.Core.Path.{refl}
+use Rattle.groups.proofs.Putting.{put_goes, put_ends}
 use Rattle.groups.proofs.put_number.Goals as goal
 
 pub loop-rest-preserved : goal.loop-rest-preserved

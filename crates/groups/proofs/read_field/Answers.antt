@@ -1,9 +1,8 @@
 -- Cut off, a 0 behind a group, more than three groups, out of its field, or read: a law of `Places` each.
 use native.Mathlib.Omega.{arith}
 use lib.ListN.{get_or}
-use Rattle.groups.specs.Fields.{Field, field}
+use Rattle.groups.specs.Fields.{field}
 use Rattle.groups.proofs.Places.{read_cut, read_padded, read_long, read_other, read_good, padded, not_padded}
-use borrow.Author.Rules.{rules}
 use Rattle.groups.proofs.read_field.Goals as goal
 
 pub returns-then-file-last : goal.returns-then-file-last

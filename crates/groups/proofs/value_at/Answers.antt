@@ -1,6 +1,5 @@
 -- One, two or three groups: the value by `Places`.
 use Rattle.groups.proofs.Places.{one_group, two_groups, three_groups}
-use borrow.Author.Rules.{rules}
 use Rattle.groups.proofs.value_at.Goals as goal
 
 pub returns-then-last-at : goal.returns-then-last-at

@@ -1,7 +1,5 @@
 -- By what settling tells, and the number of routines.
-use borrow.Author.Tests.{not-true, not-false}
-use Rattle.judging.proofs.Judgements.{first_words, not_settled, too_many, drafted}
-use borrow.Author.Rules.{rules}
+use Rattle.judging.proofs.Judgements.{first_words, too_many, drafted}
 use Rattle.judging.proofs.draft.Goals as goal
 
 pub settle-requires : goal.settle-requires

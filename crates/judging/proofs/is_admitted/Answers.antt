@@ -1,8 +1,5 @@
 -- Admission judges the draft.
-use native.Mathlib.Omega.{arith}
-use native.Mathlib.Nat.{pos_of_ne-zero}
-use Rattle.judging.proofs.Judgements.{judged, nothing_judged}
-use borrow.Author.Rules.{rules}
+use Rattle.judging.proofs.Judgements.{judged}
 use Rattle.judging.proofs.is_admitted.Goals as goal
 
 pub returns : goal.returns

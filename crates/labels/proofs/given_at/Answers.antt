@@ -1,9 +1,7 @@
 -- A line a turn, from the entry of the name's number on: none before it gives the name.
-use borrow.Author.Rules.{rules}
 use mathlib.Core.Path.{sym, ◌∙◌}
 use Prim.Native.Nat.{◌-◌}
-use Rattle.labels.proofs.Indexes.{look_starts}
-use Rattle.labels.proofs.Searches.{Looking, look_hits, look_goes, look_ends}
+use Rattle.labels.proofs.Searches.{look_hits, look_goes, look_ends}
 use Rattle.labels.proofs.given_at.Goals as goal
 
 pub returns-then-gives : goal.returns-then-gives

@@ -1,7 +1,6 @@
 -- A letter a turn.
-use borrow.Author.Rules.{rules}
 use Prim.Native.Nat.{◌-◌}
-use Rattle.labels.proofs.Indexes.{Hashing, hash_starts, hash_goes, hash_ends}
+use Rattle.labels.proofs.Indexes.{hash_goes, hash_ends}
 use Rattle.labels.proofs.hash.Goals as goal
 
 pub loop-i-preserved : goal.loop-i-preserved

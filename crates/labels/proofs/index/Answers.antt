@@ -1,9 +1,6 @@
 -- A line a turn is entered.
-use borrow.Author.Rules.{rules}
-use mathlib.Core.Path.{sym, ◌∙◌}
-use native.Mathlib.Omega.{arith}
 use Prim.Native.Nat.{◌-◌}
-use Rattle.labels.proofs.Indexes.{Indexing, new_rooms, index_starts, index_goes, index_ends}
+use Rattle.labels.proofs.Indexes.{index_starts, index_goes, index_ends}
 use Rattle.labels.proofs.index.Goals as goal
 
 pub loop-at-init : goal.loop-at-init

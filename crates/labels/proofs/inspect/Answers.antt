@@ -1,8 +1,6 @@
 -- A line a turn: all before it are good, their words are counted, and their addresses are noted.
-use borrow.Author.Rules.{rules}
-use native.Mathlib.Omega.{arith}
 use Prim.Native.Nat.{◌-◌}
-use Rattle.labels.proofs.Inspects.{Inspecting, inspect_starts, inspect_hits, inspect_goes, inspect_ends}
+use Rattle.labels.proofs.Inspects.{inspect_starts, inspect_hits, inspect_goes, inspect_ends}
 use Rattle.labels.proofs.inspect.Goals as goal
 
 pub loop-at-init : goal.loop-at-init

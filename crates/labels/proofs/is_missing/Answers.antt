@@ -1,4 +1,3 @@
-use borrow.Author.Rules.{rules}
 use Rattle.labels.specs.Lines.{lines_of}
 use Rattle.labels.proofs.Searches.{nameless, named, misfit_nameless}
 use Rattle.labels.proofs.is_missing.Goals as goal

@@ -1,12 +1,11 @@
 -- The first line that gives the label is another.
-use borrow.Author.Rules.{rules}
-use mathlib.Core.Path.{sym, ap, ◌∙◌}
+use mathlib.Core.Path.{ap, ◌∙◌}
 use mathlib.Core.List.{List}
 use Prim.Native.Nat.{ℕ, ◌-◌}
 use lib.ListN.{take}
 use Rattle.labels.specs.Lines.{lines_of}
 use Rattle.labels.specs.Labels.{given_at}
-use Rattle.labels.proofs.Searches.{unlabelled_first, label_some, repeats_is}
+use Rattle.labels.proofs.Searches.{label_some, repeats_is}
 use Rattle.labels.proofs.is_repeat.Goals as goal
 
 pub given_at-requires : goal.given_at-requires

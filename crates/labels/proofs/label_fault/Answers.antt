@@ -1,12 +1,9 @@
 -- A line a turn: none before it repeats a label or uses a missing one.
-use borrow.Author.Rules.{rules}
 use mathlib.Core.Path.{sym, ap₂, ◌∙◌}
 use mathlib.Core.Bool.{◌||◌}
-use native.Mathlib.Omega.{arith}
 use Prim.Native.Nat.{◌-◌}
-use Rattle.labels.specs.internal.Search.{is_faulty}
 use Rattle.labels.proofs.Cuts.{this_line}
-use Rattle.labels.proofs.Searches.{Searching, search_starts, search_hits, search_goes, search_ends}
+use Rattle.labels.proofs.Searches.{search_hits, search_goes, search_ends}
 use Rattle.labels.proofs.label_fault.Goals as goal
 
 pub is_repeat-requires : goal.is_repeat-requires

@@ -1,4 +1,3 @@
-use borrow.Author.Rules.{rules}
 use mathlib.Core.Path.{sym}
 use Rattle.labels.specs.Lines.{label_size}
 use Rattle.labels.proofs.Names.{label_long}

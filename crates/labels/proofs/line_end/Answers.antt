@@ -1,7 +1,6 @@
 -- A byte a turn, up to the line feed.
-use borrow.Author.Rules.{rules}
 use Prim.Native.Nat.{◌-◌}
-use Rattle.labels.proofs.Cuts.{Cutting, cut_starts, cut_hits, cut_goes, cut_ends}
+use Rattle.labels.proofs.Cuts.{cut_hits, cut_goes, cut_ends}
 use Rattle.labels.proofs.line_end.Goals as goal
 
 pub returns-then-text-i-eq10 : goal.returns-then-text-i-eq10

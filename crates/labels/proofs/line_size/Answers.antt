@@ -1,4 +1,3 @@
-use borrow.Author.Rules.{rules}
 use Rattle.labels.proofs.Sizes.{matched_row, size_fits, size_misfits}
 use Rattle.labels.proofs.line_size.Goals as goal
 

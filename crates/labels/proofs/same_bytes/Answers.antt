@@ -1,8 +1,7 @@
 -- A byte of both a turn; all before it are the same.
-use borrow.Author.Rules.{rules}
 use mathlib.Core.Path.{sym}
 use Prim.Native.Nat.{◌-◌}
-use Rattle.labels.proofs.Names.{same_length, Comparing, compare_starts, compare_differs, compare_goes, compare_ends}
+use Rattle.labels.proofs.Names.{same_length}
 use Rattle.labels.proofs.same_bytes.Goals as goal
 
 pub returns-then-n-b : goal.returns-then-n-b

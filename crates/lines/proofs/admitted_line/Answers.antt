@@ -1,5 +1,4 @@
 -- Text and need, then the line feed.
-use borrow.Author.Rules.{rules}
 use Rattle.lines.specs.Lines.{admitted_line}
 use Rattle.pages.proofs.Pages.{byte_written}
 use Rattle.lines.proofs.admitted_line.Goals as goal

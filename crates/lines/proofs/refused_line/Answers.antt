@@ -1,5 +1,4 @@
 -- The number, then the place, then the line feed.
-use borrow.Author.Rules.{rules}
 use Rattle.lines.specs.Lines.{refused_line}
 use Rattle.pages.proofs.Pages.{texts_written, byte_written}
 use Rattle.lines.proofs.refused_line.Goals as goal

@@ -1,5 +1,4 @@
 -- The stop's word, the four numbers behind their texts, then the line feed.
-use borrow.Author.Rules.{rules}
 use Rattle.lines.specs.Lines.{run_line}
 use Rattle.pages.proofs.Pages.{texts_written, byte_written}
 use Rattle.lines.proofs.run_line.Goals as goal

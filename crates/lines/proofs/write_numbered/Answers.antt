@@ -1,5 +1,4 @@
 -- The number stands behind the text.
-use borrow.Author.Rules.{rules}
 use native.Mathlib.Nat.{le_refl}
 use Rattle.lines.specs.Lines.{numbered}
 use Rattle.pages.proofs.Pages.{texts_written}

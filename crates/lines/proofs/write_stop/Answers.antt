@@ -1,5 +1,4 @@
 -- Each stop has its word, none longer than "unsettled".
-use borrow.Author.Rules.{rules}
 use native.Mathlib.Omega.{arith}
 use Rattle.lines.specs.Lines.{stop_word}
 use Rattle.lines.proofs.write_stop.Goals as goal

@@ -1,6 +1,5 @@
 -- The call's rules are prechecked first; a call that passes them is the run of its steps.
 use mathlib.Core.Path.{◌≡◌, sym, ap, ◌∙◌, subst}
-use borrow.Author.Rules.{rules}
 use Rattle.model.specs.Run.{Call, Outcome, refusal_of, outcome_by, call_of}
 use Rattle.model.specs.RunPromise.{RunPromise}
 use Rattle.model.specs.declared.Precheck.{Precheck}

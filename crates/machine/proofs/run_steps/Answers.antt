@@ -1,17 +1,13 @@
 -- The loop's invariant is that what is left of the run is the run from the start; each need is one of its laws.
-use mathlib.Core.Path.{◌≡◌, refl, sym, ap, ◌∙◌}
+use mathlib.Core.Path.{◌≡◌, sym, ap}
 use mathlib.Core.List.{List}
 use Prim.Native.Nat.{ℕ, ◌-◌}
-use native.Mathlib.Omega.{arith}
-use borrow.Author.Rules.{rules}
 use Rattle.model.specs.Run.{Outcome, outcome, reported}
-use Rattle.model.specs.State.{with_registers}
-use Rattle.model.specs.Step.{setting, machine_at}
 use Rattle.model.specs.declared.Answer.{Answer}
 use Rattle.model.specs.declared.State.{State}
 use Rattle.model.proofs.Runs.{halted_stays}
 use Rattle.stepping.proofs.Attempts.{attempted}
-use Rattle.machine.proofs.RunLoop.{LoopInvariant, loop_starts, loop_goes, loop_stops, loop_halts, loop_ends}
+use Rattle.machine.proofs.RunLoop.{loop_goes, loop_stops, loop_halts, loop_ends}
 use Rattle.machine.proofs.run_steps.Goals as goal
 
 -- the state that is reported

@@ -1,13 +1,8 @@
 -- A run's own loop, with what is counted and noted beside it; each need is a law of the loop's invariant.
-use mathlib.Core.Path.{refl, ◌∙◌}
+use mathlib.Core.Path.{refl}
 use Prim.Native.Nat.{◌-◌}
-use native.Mathlib.Omega.{arith}
-use borrow.Author.Rules.{rules}
-use Rattle.pages.specs.Page.{page}
-use Rattle.model.specs.State.{with_registers}
-use Rattle.model.specs.Step.{setting, machine_at}
 use Rattle.stepping.proofs.Attempts.{attempted}
-use Rattle.observation.proofs.ObservedLoop.{ObservedLoop, observing_starts, observing_fits, observing_goes, observing_stops, observing_halts, observing_ends}
+use Rattle.observation.proofs.ObservedLoop.{observing_starts, observing_goes, observing_stops, observing_halts, observing_ends}
 use Rattle.observation.proofs.observe.Goals as goal
 
 pub returns-then-start : goal.returns-then-start

@@ -1,10 +1,6 @@
 -- An address a turn: those before it are filled, and the numbers of the others stand from `next` on.
-use borrow.Author.Rules.{rules}
 use Prim.Native.Nat.{◌-◌}
-use native.Mathlib.Omega.{arith}
-use mathlib.Core.Path.{sym, ◌∙◌}
-use lib.ListN.{length-set}
-use Rattle.opening.proofs.AddressesFilled.{Filling, fill_starts, fill_goes, fill_ends}
+use Rattle.opening.proofs.AddressesFilled.{fill_starts, fill_goes, fill_ends}
 use Rattle.opening.proofs.fill_addresses.Goals as goal
 
 pub loop-a-init : goal.loop-a-init

@@ -1,9 +1,6 @@
 -- A byte a turn: those before it are filled, and the others stand from `next` on.
-use borrow.Author.Rules.{rules}
 use Prim.Native.Nat.{◌-◌}
-use native.Mathlib.Omega.{arith}
-use mathlib.Core.Path.{sym, ◌∙◌}
-use Rattle.opening.proofs.ListFilled.{ListFilling, list_starts, list_goes, list_ends}
+use Rattle.opening.proofs.ListFilled.{list_starts, list_goes, list_ends}
 use Rattle.opening.proofs.fill_bytes.Goals as goal
 
 pub loop-i-init : goal.loop-i-init

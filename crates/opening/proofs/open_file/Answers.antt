@@ -1,8 +1,6 @@
 -- A law for each answer: lengths, a file that is refused, and a good one that fills all four buffers.
-use native.Mathlib.Omega.{arith}
-use Rattle.rules.specs.Sheet.{Listing, listing}
+use Rattle.rules.specs.Sheet.{listing}
 use Rattle.opening.proofs.Outcomes.{BufferSizes, sized, refuse_sizes, refuse_file, opened_whole, good_of, stopped_of}
-use borrow.Author.Rules.{rules}
 use Rattle.opening.proofs.open_file.Goals as goal
 use Rattle.opening.proofs.open_file.Goals.{Else-fault-ne0}
 

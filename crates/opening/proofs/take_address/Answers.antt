@@ -1,8 +1,6 @@
 -- None where there are no more; the numbers that stand there are not refused.
-use borrow.Author.Tests.{not-true, not-false}
-use Rattle.checking.proofs.Walking.{numbers_read, address_refused}
-use Rattle.opening.proofs.Taking.{take_none, take_refused, take_got}
-use borrow.Author.Rules.{rules}
+use Rattle.checking.proofs.Walking.{numbers_read}
+use Rattle.opening.proofs.Taking.{take_got}
 use Rattle.opening.proofs.take_address.Goals as goal
 
 pub returns-in-Numbers : goal.returns-in-Numbers

@@ -1,8 +1,6 @@
 -- 0 where there are no more; the number that stands there is not refused.
-use borrow.Author.Tests.{not-true, not-false}
-use Rattle.groups.proofs.Places.{value_read, refusal_read}
-use Rattle.opening.proofs.Taking.{byte_none, byte_refused, byte_got}
-use borrow.Author.Rules.{rules}
+use Rattle.groups.proofs.Places.{value_read}
+use Rattle.opening.proofs.Taking.{byte_got}
 use Rattle.opening.proofs.take_byte.Goals as goal
 
 pub returns-in-Value : goal.returns-in-Value

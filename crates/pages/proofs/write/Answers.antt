@@ -1,9 +1,5 @@
 -- A byte a turn: what is left of the text, written from here, leaves the page of the whole.
-use borrow.Author.Rules.{rules}
-use Prim.Native.Nat.{◌-◌}
-use lib.ListN.{length}
-use Rattle.pages.specs.Page.{page}
-use Rattle.pages.proofs.Pages.{Writing, write_starts, write_goes, write_ends}
+use Rattle.pages.proofs.Pages.{write_goes, write_ends}
 use Rattle.pages.proofs.write.Goals as goal
 
 pub loop-i-preserved : goal.loop-i-preserved

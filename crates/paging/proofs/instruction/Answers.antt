@@ -1,6 +1,5 @@
 -- The fields are cut from the bytes, and the form is the table's.
 use mathlib.Core.Path.{◌∙◌}
-use borrow.Author.Rules.{rules}
 use Rattle.paging.proofs.Forms.{instruction_found}
 use Rattle.paging.proofs.instruction.Goals as goal
 

@@ -1,5 +1,4 @@
 -- The printed text of what the bytes decode to.
-use borrow.Author.Rules.{rules}
 use Rattle.paging.proofs.Line.{decoded_text}
 use Rattle.paging.proofs.text_columns.Goals as goal
 

@@ -1,5 +1,4 @@
 -- The line's parts, one behind another.
-use borrow.Author.Rules.{rules}
 use Rattle.pages.specs.Page.{page}
 use Rattle.paging.proofs.Line.{line_written, text_narrow}
 use Rattle.paging.proofs.write_line.Goals as goal

@@ -1,11 +1,8 @@
 -- A line a turn: the lines of the addresses that are left, written from here, leave the page of them all.
 use mathlib.Core.Path.{sym, ◌∙◌}
 use Prim.Native.Nat.{◌-◌}
-use borrow.Author.Rules.{rules}
-use Rattle.slices.specs.Sizes.{bank_size}
-use Rattle.pages.specs.Page.{page}
 use Rattle.busy_runs.specs.internal.Writing.{program}
-use Rattle.paging.proofs.PageLoop.{PageLoop, next_below, page_starts, page_goes, page_ends, page_full}
+use Rattle.paging.proofs.PageLoop.{next_below, page_starts, page_goes, page_ends, page_full}
 use Rattle.paging.proofs.write_page.Goals as goal
 
 pub loop-lines-init : goal.loop-lines-init

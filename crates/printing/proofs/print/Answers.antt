@@ -1,5 +1,4 @@
 -- Refused by the encoder's number, or the text over spaces.
-use borrow.Author.Rules.{rules}
 use mathlib.Core.Path.{sym, ap, ◌∙◌}
 use native.Mathlib.Omega.{arith}
 use Rattle.isa.specs.Encode.{number_of}

@@ -1,8 +1,7 @@
 -- A byte of the spelling a turn: what is left of it, filled and written from here, leaves the page of the whole.
 use borrow.Author.Rules.{rules}
 use Prim.Native.Nat.{◌-◌}
-use Rattle.pages.specs.Page.{page}
-use Rattle.printing.proofs.Filling.{Filling, fill_starts, fill_goes, fill_dot, fill_full}
+use Rattle.printing.proofs.Filling.{fill_goes, fill_dot, fill_full}
 use Rattle.printing.proofs.write_filled.Goals as goal
 
 pub returns-then-c-eq46 : goal.returns-then-c-eq46

@@ -1,5 +1,4 @@
 -- "R", and the number behind it.
-use borrow.Author.Rules.{rules}
 use mathlib.Core.Path.{ap, ◌∙◌}
 use Rattle.pages.specs.Page.{write_of}
 use Rattle.pages.specs.Text.{decimal}

@@ -1,5 +1,4 @@
 -- Each test of the code is one of the definition.
-use borrow.Author.Rules.{rules}
 use borrow.Author.Tests.{eq-eqb, ne_eqb}
 use Rattle.pages.specs.Page.{write_of}
 use Rattle.printing.specs.Print.{shown_at}

@@ -1,5 +1,4 @@
 -- The row's spelling, filled with the form's fields.
-use borrow.Author.Rules.{rules}
 use Rattle.printing.specs.Print.{text_of}
 use Rattle.printing.proofs.write_text.Goals as goal
 

@@ -1,8 +1,5 @@
 -- The leader of the addresses passed is the definition's first.
-use Prim.Native.Nat.{◌-◌}
-use Rattle.slices.specs.Sizes.{bank_size}
-use Rattle.ranking.proofs.Scanning.{Leading, lead_starts, lead_goes, lead_ends}
-use borrow.Author.Rules.{rules}
+use Rattle.ranking.proofs.Scanning.{lead_starts, lead_goes}
 use Rattle.ranking.proofs.next_after.Goals as goal
 
 pub loop-a-init : goal.loop-a-init

@@ -1,9 +1,8 @@
 -- The rows before the one that is tried don't fit: each was tried, or begins with other bytes.
-use borrow.Author.Rules.{rules}
 use mathlib.Core.Path.{refl}
 use native.Mathlib.Omega.{arith}
 use Prim.Native.Nat.{◌-◌}
-use Rattle.reading.proofs.Seeks.{Seeking, few_fit_none, seek_starts, seek_goes, seek_hits, seek_ends}
+use Rattle.reading.proofs.Seeks.{few_fit_none, seek_starts, seek_goes, seek_hits, seek_ends}
 use Rattle.reading.proofs.find_row.Goals as goal
 
 pub returns-then-n-start-lt3 : goal.returns-then-n-start-lt3

@@ -1,6 +1,5 @@
 use Rattle.reading.specs.Reading.{literal_of}
 use borrow.Author.Tests.{lt-ltb, le-ltb, eq-eqb, ne_eqb}
-use borrow.Author.Rules.{rules}
 use Rattle.reading.proofs.literal.Goals as goal
 
 pub returns-then-line-at : goal.returns-then-line-at

@@ -1,7 +1,5 @@
-use borrow.Author.Tests.{not-true, not-false}
 use native.Mathlib.Nat.{add-sub_cancel_left}
 use Rattle.reading.specs.Reading.{byte_of}
-use borrow.Author.Rules.{rules}
 use Rattle.reading.proofs.scan_byte.Goals as goal
 
 pub returns-then-not-ok : goal.returns-then-not-ok

@@ -1,5 +1,4 @@
 -- A refusal's line, or the two lines one behind the other; there is room for either.
-use borrow.Author.Rules.{rules}
 use native.Mathlib.Omega.{arith}
 use Rattle.report.proofs.DeskTexts.{refused_text, admitted_text, ends, answered}
 use Rattle.pages.proofs.Pages.{texts_written, written_within}

@@ -1,5 +1,4 @@
 -- The line by the answer's case.
-use borrow.Author.Rules.{rules}
 use mathlib.Core.Path.{refl}
 use native.Mathlib.Omega.{arith}
 use Rattle.pages.specs.Page.{write_of}

@@ -1,5 +1,4 @@
 -- What the run's outcome says, written behind what stands there.
-use borrow.Author.Rules.{rules}
 use Rattle.report.proofs.DeskTexts.{ran_text_of}
 use Rattle.pages.proofs.Pages.{written_same}
 use Rattle.report.proofs.run_program.Goals as goal

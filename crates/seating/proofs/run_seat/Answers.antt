@@ -2,7 +2,6 @@
 use mathlib.Core.Path.{◌≡◌}
 use Prim.Native.Nat.{◌+◌, ◌-◌, ◌*◌}
 use native.Mathlib.Omega.{arith}
-use borrow.Author.Rules.{rules}
 use Rattle.seats.specs.Room.{length_at}
 use Rattle.scheduling.specs.Numbers.{room_of}
 use Rattle.seating.proofs.SeatParts.{seat_ran}

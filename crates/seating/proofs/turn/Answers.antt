@@ -4,8 +4,6 @@ use mathlib.Core.Logic.{◌≢◌}
 use Prim.Native.Nat.{◌<◌}
 use native.Mathlib.Nat.{mod-lt}
 use native.Mathlib.Omega.{arith}
-use borrow.Author.Rules.{rules}
-use Rattle.seats.specs.Room.{Room}
 use Rattle.seats.specs.Turn.{turn_call, next_seat}
 use Rattle.seats.proofs.TurnCases.{places}
 use Rattle.scheduling.specs.Numbers.{room_of}

@@ -1,8 +1,7 @@
 -- An impossible address refutes every sheet.
 use mathlib.Core.Path.{ap, ◌∙◌}
 use Rattle.drawings.specs.internal.Cells.{cell_in}
-use Rattle.settling.proofs.Hindrances.{refutes_nothing, hindered}
-use borrow.Author.Rules.{rules}
+use Rattle.settling.proofs.Hindrances.{hindered}
 use Rattle.settling.proofs.hinders.Goals as goal
 
 pub returns : goal.returns

@@ -4,7 +4,6 @@ use mathlib.Core.Bool.{◌||◌}
 use mathlib.Core.Path.{refl}
 use Rattle.drawings.specs.internal.Impossible.{impossible}
 use Rattle.settling.proofs.Hindrances.{and_true, and_off, or_false}
-use borrow.Author.Rules.{rules}
 use Rattle.settling.proofs.is_impossible.Goals as goal
 
 pub returns-in-Next : goal.returns-in-Next

@@ -1,10 +1,6 @@
 -- Each address comes once, whichever way; what is answered false has changed nothing.
 use Prim.Native.Nat.{◌-◌}
-use native.Mathlib.Omega.{arith}
-use mathlib.Core.Path.{sym, ◌∙◌}
-use Rattle.drawings.specs.Reached.{banks}
-use Rattle.settling.proofs.Passing.{PassInvariant, pass_start, pass_on, pass_end}
-use borrow.Author.Rules.{rules}
+use Rattle.settling.proofs.Passing.{pass_on, pass_end}
 use Rattle.settling.proofs.pass.Goals as goal
 
 pub loop-i-preserved : goal.loop-i-preserved

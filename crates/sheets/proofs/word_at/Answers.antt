@@ -1,5 +1,4 @@
 -- The two bytes as one number.
-use borrow.Author.Rules.{rules}
 use Rattle.sheets.specs.internal.Words.{word_of}
 use Rattle.sheets.proofs.word_at.Goals as goal
 

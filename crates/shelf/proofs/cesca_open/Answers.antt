@@ -3,7 +3,6 @@ use mathlib.Core.Path.{ap, ◌∙◌}
 use Rattle.files.specs.Calls.{Outcome}
 use Rattle.files.proofs.Promised.{promised}
 use Rattle.shelf.specs.Exported.{opened_numbers}
-use borrow.Author.Rules.{rules}
 use Rattle.shelf.proofs.cesca_open.Goals as goal
 
 pub returns : goal.returns

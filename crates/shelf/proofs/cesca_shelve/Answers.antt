@@ -3,7 +3,6 @@ use mathlib.Core.Path.{ap, ◌∙◌}
 use Rattle.files.specs.Calls.{Written}
 use Rattle.files.proofs.Promised.{promised}
 use Rattle.shelf.specs.Exported.{shelved_numbers}
-use borrow.Author.Rules.{rules}
 use Rattle.shelf.proofs.cesca_shelve.Goals as goal
 
 pub returns : goal.returns

@@ -1,6 +1,5 @@
 -- The three tests are those of `blank`.
 use Rattle.rules.specs.Sheet.{word}
-use borrow.Author.Rules.{rules}
 use Rattle.shelving.proofs.is_blank.Goals as goal
 
 pub returns : goal.returns

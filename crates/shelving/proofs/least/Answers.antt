@@ -1,10 +1,6 @@
 -- An address a turn, from the last on: those passed are blank.
-use borrow.Author.Rules.{rules}
 use mathlib.Core.Path.{sym, ◌∙◌}
-use mathlib.Core.List.{[]}
-use borrow.Author.Tests.{not-true, not-false}
-use Rattle.rules.specs.Sheet.{listing}
-use Rattle.shelving.proofs.Counting.{Counting, count_starts, count_stops, count_goes, count_ends}
+use Rattle.shelving.proofs.Counting.{count_stops, count_goes, count_ends}
 use Rattle.shelving.proofs.least.Goals as goal
 
 pub returns-then-not-is_blank : goal.returns-then-not-is_blank

@@ -3,7 +3,6 @@ use Rattle.pages.specs.Page.{page}
 use Rattle.rules.specs.Sheet.{word}
 use Rattle.files.specs.File.{address_numbers}
 use Rattle.shelving.proofs.RowsPut.{three_put}
-use borrow.Author.Rules.{rules}
 use Rattle.shelving.proofs.put_address.Goals as goal
 
 pub returns : goal.returns

@@ -1,10 +1,6 @@
 -- An address a turn: what is left, written from here, leaves the page of the whole.
-use borrow.Author.Rules.{rules}
 use Prim.Native.Nat.{◌-◌}
-use mathlib.Core.List.{[]}
-use Rattle.pages.specs.Page.{page}
-use Rattle.rules.specs.Sheet.{listing}
-use Rattle.shelving.proofs.RowsPut.{PutTo, to_starts, to_goes, to_ends}
+use Rattle.shelving.proofs.RowsPut.{to_goes, to_ends}
 use Rattle.shelving.proofs.put_addresses.Goals as goal
 
 pub loop-a-preserved : goal.loop-a-preserved

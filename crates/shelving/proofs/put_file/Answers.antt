@@ -6,7 +6,6 @@ use Rattle.pages.specs.Page.{page}
 use Rattle.rules.specs.Sheet.{listing}
 use Rattle.files.proofs.Least.{used_within}
 use Rattle.shelving.proofs.Answers.{file_put}
-use borrow.Author.Rules.{rules}
 use Rattle.shelving.proofs.put_file.Goals as goal
 use Rattle.shelving.proofs.put_file.Goals.{After-least-n}
 

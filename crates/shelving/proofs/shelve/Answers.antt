@@ -1,10 +1,9 @@
 -- A law for each answer; 2,051 bytes are room for every file.
 use native.Mathlib.Omega.{arith}
-use Rattle.rules.specs.Sheet.{Listing, listing}
+use Rattle.rules.specs.Sheet.{listing}
 use Rattle.files.specs.Promise.{Passes}
 use Rattle.files.proofs.Sizes.{good_sizes}
 use Rattle.shelving.proofs.Answers.{refuse_sizes, refuse_room, sized, shelved_whole}
-use borrow.Author.Rules.{rules}
 use Rattle.shelving.proofs.shelve.Goals as goal
 use Rattle.shelving.proofs.shelve.Goals.{Else-fault-ne0}
 

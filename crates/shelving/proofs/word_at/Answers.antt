@@ -1,6 +1,5 @@
 -- Two bytes, low byte first.
 use Rattle.rules.specs.Sheet.{word}
-use borrow.Author.Rules.{rules}
 use Rattle.shelving.proofs.word_at.Goals as goal
 
 pub returns : goal.returns

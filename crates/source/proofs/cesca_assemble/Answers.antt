@@ -1,4 +1,3 @@
-use borrow.Author.Rules.{rules}
 use Rattle.reading.proofs.OneRow.{one_row}
 use Rattle.words.specs.Program.{program_of}
 use Rattle.words.proofs.Counts.{forms_count}

@@ -1,6 +1,5 @@
 use Rattle.spelling.specs.Words.{operand_of}
 use borrow.Author.Tests.{lt-ltb, le-ltb}
-use borrow.Author.Rules.{rules}
 use Rattle.spelling.proofs.classify.Goals as goal
 
 pub returns-then-n-b0 : goal.returns-then-n-b0

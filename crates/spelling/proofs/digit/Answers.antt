@@ -1,6 +1,5 @@
 use Rattle.spelling.specs.Words.{digit_of}
 use borrow.Author.Tests.{lt-ltb, le-ltb, le-leb, lt-leb}
-use borrow.Author.Rules.{rules}
 use Rattle.spelling.proofs.digit.Goals as goal
 
 pub returns-then-c-lt48 : goal.returns-then-c-lt48

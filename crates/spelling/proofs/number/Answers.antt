@@ -1,6 +1,5 @@
 use Rattle.spelling.specs.Words.{numeral_of}
 use borrow.Author.Tests.{eq-eqb, ne_eqb}
-use borrow.Author.Rules.{rules}
 use Rattle.spelling.proofs.number.Goals as goal
 
 pub returns-then-n-eq1 : goal.returns-then-n-eq1

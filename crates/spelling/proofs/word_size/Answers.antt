@@ -1,5 +1,4 @@
-use Rattle.spelling.proofs.Runs.{Running, run_start, run_stop, run_pass, run_end}
-use borrow.Author.Tests.{not-true, not-false}
+use Rattle.spelling.proofs.Runs.{run_stop, run_pass, run_end}
 use borrow.Author.Rules.{rules}
 use mathlib.Core.Path.{sym, ◌∙◌}
 use Prim.Native.Nat.{◌-◌}

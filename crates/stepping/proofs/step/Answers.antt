@@ -21,7 +21,6 @@ use Rattle.model.specs.declared.Stop.{Stop}
 use Rattle.model.specs.declared.Stop.TheVariants.{Unsettled, Full}
 use Rattle.model.specs.declared.Verdict.TheVariants.{Go, Stopped}
 use Rattle.stepping.proofs.Attempts.{halted_prevents, step_made, step_prevented}
-use borrow.Author.Rules.{rules}
 use Rattle.stepping.proofs.step.Goals as goal
 use Rattle.stepping.proofs.step.Goals.{After-widen-n}
 

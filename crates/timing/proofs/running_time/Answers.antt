@@ -6,7 +6,6 @@ use Rattle.model.specs.Time.{max_clock, max_cycles, time_of, TimePromise}
 use Rattle.model.specs.declared.RunningTime.{RunningTime}
 use Rattle.model.specs.declared.RunningTime.TheVariants.{Tenths, BadClock, BadCycles}
 use Rattle.model.proofs.Promises.{time_promise}
-use borrow.Author.Rules.{rules}
 use Rattle.timing.proofs.running_time.Goals as goal
 
 promised : (cycles clock : ℕ) (t : RunningTime) → time_of cycles clock ≡ t → TimePromise cycles clock t

@@ -1,5 +1,4 @@
 -- The outcome of the turn, part by part.
-use borrow.Author.Rules.{rules}
 use Rattle.turns.proofs.Exports.{numbered}
 use Rattle.turns.proofs.cesca_turn.Goals as goal
 

@@ -1,6 +1,5 @@
 -- The bytes at the address, decoded and classified.
 use Rattle.model.specs.Step.{instr_at}
-use Rattle.std.proofs.Common.{rules}
 use Rattle.visiting.proofs.class_at.Goals as goal
 
 pub returns : goal.returns

@@ -1,7 +1,7 @@
 -- An arm a class, as the successors are defined.
-use Rattle.std.proofs.Common.{ℕ, Bool, refl, ap, ◌∙◌, rules}
+use Rattle.std.proofs.Common.{ℕ, ap, ◌∙◌}
 use Rattle.drawings.specs.internal.Cells.{cell}
-use Rattle.visiting.proofs.Meetings.{met_none, met_both, met_as, met_wrapped}
+use Rattle.visiting.proofs.Meetings.{met_as, met_wrapped}
 use Rattle.visiting.proofs.meet_successors.Goals as goal
 
 pub returns-in-Push : goal.returns-in-Push

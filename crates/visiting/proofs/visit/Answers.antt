@@ -1,5 +1,5 @@
 -- By whether the address is reached.
-use Rattle.std.proofs.Common.{sym, ap, ◌∙◌, rules}
+use Rattle.std.proofs.Common.{sym, ap, ◌∙◌}
 use Rattle.drawings.specs.internal.Cells.{cell_in}
 use Rattle.visiting.proofs.Demanded.{not_reached, reached}
 use Rattle.visiting.proofs.visit.Goals as goal

@@ -1,4 +1,3 @@
-use borrow.Author.Rules.{rules}
 use mathlib.Core.Path.{sym, ◌∙◌}
 use Rattle.labels.specs.Lines.{lines_of}
 use Rattle.words.proofs.Counts.{address_none, address_held}

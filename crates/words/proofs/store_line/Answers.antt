@@ -1,4 +1,3 @@
-use borrow.Author.Rules.{rules}
 use Rattle.labels.proofs.Sizes.{matched_row}
 use Rattle.words.proofs.Bytes.{line_stored, misfit_stored}
 use Rattle.words.proofs.store_line.Goals as goal

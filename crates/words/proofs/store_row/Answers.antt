@@ -1,4 +1,3 @@
-use borrow.Author.Rules.{rules}
 use Rattle.words.specs.Program.{opcode_of, argument_of}
 use Rattle.words.proofs.Storing.{stored_one, stored_two, stored_three}
 use Rattle.words.proofs.store_row.Goals as goal

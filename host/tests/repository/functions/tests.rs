@@ -6,7 +6,7 @@ use super::{functions, Function};
 const MIXED: &str = "\
 // pub fn none(
 fn own() {}
-#[no_mangle]
+#[unsafe(no_mangle)]
 pub extern \"C\" fn c_f(x: u8) -> u8
 {
     x
@@ -22,13 +22,13 @@ pub extern \"C\" fn c_f(x: u8) -> u8
 const OF_OTHERS: &str = "\
 pub fn f() -> u8
     // requires { x }
-    ensures { λ r. ⌜ r ≡ 0 ⌝ }
+    ensures { result ≡ 0 }
 {
     if true { 0 } else { 1 }
 }
 
 fn g(x: u8)
-    requires { ⌜ x < 3 ⌝ }
+    requires { x < 3 }
 {}
 pub fn h() -> u8 {
     0
@@ -54,10 +54,11 @@ fn public_and_exported_functions_are_seen() {
 #[test]
 fn a_requires_is_found_wherever_it_stands() {
     for (contract, line) in [
-        ("\n    requires { ⌜ x < 3 ⌝ }\n    ensures { λ r. ⌜ r ≡ x ⌝ }", 3),
-        ("\n    ensures { λ r. ⌜ g {x} r ⌝ }\n    requires { ⌜ x < 3 ⌝ }", 4),
+        ("\n    requires { x < 3 }\n    ensures { result ≡ x }", 3),
+        ("\n    ensures { g {x} result }\n    requires { x < 3 }", 4),
         ("\n    other {\n        x\n    }\n    requires {\n        x\n    }", 6),
         (" requires { x }", 2),
+        ("\n    ensures low { x }\n    requires small { x < 3 }", 4),
     ] {
         let text = with_contract(contract);
         assert_eq!(messages(&text), [("f".into(), false, 2, Some(line))], "{text}");
@@ -66,7 +67,7 @@ fn a_requires_is_found_wherever_it_stands() {
 
 #[test]
 fn other_contracts_have_none() {
-    for contract in ["", "\n    ensures { λ r. ⌜ requires r ⌝ }", "\n    // requires { x }"] {
+    for contract in ["", "\n    ensures { requires result }", "\n    // requires { x }"] {
         let text = with_contract(contract);
         assert_eq!(messages(&text), [("f".into(), false, 2, None)], "{text}");
     }

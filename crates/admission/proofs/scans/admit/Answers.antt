@@ -1,5 +1,4 @@
 -- The lengths, or what the scans answer.
-use borrow.Author.Rules.{rules}
 use mathlib.Core.Path.{sym, ◌∙◌}
 use Rattle.rules.specs.Sheet.{listing}
 use Rattle.rules.proofs.Scanning.{or_hit, or_pass}

@@ -1,5 +1,4 @@
 -- An arm a stage: the tests on a word are those of the rules.
-use borrow.Author.Rules.{rules}
 use Rattle.sheets.specs.internal.Words.{word_of}
 use Rattle.rules.specs.Grounds.{bad_blank, bad_routine, bad_entry}
 use Rattle.rules.specs.Sheet.{word, described, marked, routine, depth, routines, entry}

@@ -1,11 +1,9 @@
 -- One loop for all stages: n is the number of the stage's places.
 use Prim.Native.Nat.{◌-◌, ◌≤◌}
-use borrow.Author.Rules.{rules}
 use native.Mathlib.Omega.{arith}
-use Rattle.rules.proofs.Scanning.{Scanning, scan_start, scan_hit, scan_pass, scan_end}
+use Rattle.rules.proofs.Scanning.{scan_hit, scan_pass, scan_end}
 use Rattle.rules.specs.Sheet.{listing, routines}
 use Rattle.slices.specs.Sizes.{bank_size}
-use Rattle.admission.specs.internal.Stages.{stage_checks}
 use Rattle.admission.proofs.Answer.{few_places}
 use Rattle.admission.proofs.scans.scan.Goals as goal
 

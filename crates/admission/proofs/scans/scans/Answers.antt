@@ -1,5 +1,4 @@
 -- The scans one after another; the first whose answer is not 0 answers for all. `one` to `four` are the places after the tests of the answers.
-use borrow.Author.Rules.{rules}
 use mathlib.Core.Path.{sym, ◌∙◌}
 use Rattle.rules.specs.Sheet.{listing, entry}
 use Rattle.rules.proofs.Scanning.{or_hit, or_pass}

@@ -1,10 +1,10 @@
 -- The tests of 1, 2 and 3, one after another.
 use mathlib.Core.Path.{◌≡◌}
-use mathlib.Core.Bool.{Bool, true, false}
+use mathlib.Core.Bool.{true, false}
 use borrow.Author.Tests.{ne_eqb}
 use Rattle.slices.specs.Checks.{first_broken}
 use Rattle.rules.specs.Grounds.{bad_banks, bad_sheet, bad_list}
-use Rattle.rules.specs.Sheet.{Listing, listing}
+use Rattle.rules.specs.Sheet.{listing}
 use Rattle.admission.proofs.scans.sizes.Goals as goal
 
 pub returns-then-not-opcodes-arguments : goal.returns-then-not-opcodes-arguments

@@ -2,7 +2,6 @@
 use Rattle.groups.proofs.Places.{value_read, refusal_read}
 use Rattle.checking.proofs.Walking.{walk_on, walk_refused}
 use Rattle.checking.proofs.WholeFile.{n_stops, addresses_stop, list_stops, file_passes}
-use borrow.Author.Rules.{rules}
 use Rattle.checking.proofs.judging.judge.Goals as goal
 
 pub returns-in-Refused : goal.returns-in-Refused

@@ -1,8 +1,6 @@
 -- An address a turn: what is left, judged from here, gives the answer of the whole.
-use borrow.Author.Rules.{rules}
 use Prim.Native.Nat.{◌-◌}
-use Rattle.groups.proofs.Rows.{rows_start}
-use Rattle.checking.proofs.Walking.{Walking, numbers_read, address_refused, walk_stops, walk_goes, walk_ends}
+use Rattle.checking.proofs.Walking.{numbers_read, address_refused, walk_stops, walk_goes, walk_ends}
 use Rattle.checking.proofs.judging.judge_addresses.Goals as goal
 
 pub returns-in-Refused : goal.returns-in-Refused

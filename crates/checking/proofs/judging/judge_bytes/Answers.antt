@@ -1,9 +1,7 @@
 -- A byte a turn: what is left, judged from here, gives the answer of the whole.
-use borrow.Author.Rules.{rules}
 use Prim.Native.Nat.{◌-◌}
 use Rattle.groups.proofs.Places.{value_read, refusal_read}
-use Rattle.groups.proofs.Rows.{rows_start}
-use Rattle.checking.proofs.Walking.{Stepping, step_stops, step_goes, step_ends}
+use Rattle.checking.proofs.Walking.{step_stops, step_goes, step_ends}
 use Rattle.checking.proofs.judging.judge_bytes.Goals as goal
 
 pub returns-in-Refused : goal.returns-in-Refused

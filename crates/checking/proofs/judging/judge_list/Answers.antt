@@ -6,7 +6,6 @@ use Rattle.groups.proofs.Places.{value_read, refusal_read}
 use Rattle.files.specs.File.{count_field}
 use Rattle.checking.proofs.ListJudged.{count_stops, bytes_stop, not_least, bytes_follow, list_passes}
 use Rattle.checking.proofs.Walking.{end_met, end_refused}
-use borrow.Author.Rules.{rules}
 use Rattle.checking.proofs.judging.judge_list.Goals as goal
 use Rattle.checking.proofs.judging.judge_list.Goals.{After-read_field-count}
 

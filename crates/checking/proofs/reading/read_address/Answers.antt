@@ -4,7 +4,6 @@ use Rattle.groups.specs.Fields.{Field}
 use Rattle.groups.proofs.Places.{value_read, refusal_read}
 use Rattle.groups.proofs.Rows.{field_stops, then_stops, then_ends, one_field}
 use Rattle.files.specs.File.{byte_field, word_field}
-use borrow.Author.Rules.{rules}
 use Rattle.checking.proofs.reading.read_address.Goals as goal
 
 -- the fields behind the opcode

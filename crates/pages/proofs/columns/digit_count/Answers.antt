@@ -1,6 +1,6 @@
 -- Each turn counts the last digit of what is left.
 use native.Mathlib.Omega.{arith}
-use Rattle.pages.proofs.Alignment.{Counting, count_starts, count_goes, count_fits, count_ends}
+use Rattle.pages.proofs.Alignment.{count_goes, count_fits, count_ends}
 use Rattle.pages.proofs.columns.digit_count.Goals as goal
 
 pub overflow_add-count : goal.overflow_add-count

@@ -1,5 +1,4 @@
 -- One digit behind the other.
-use borrow.Author.Rules.{rules}
 use Rattle.pages.specs.Page.{page}
 use Rattle.pages.proofs.Alignment.{two_bytes}
 use Rattle.pages.proofs.columns.write_hex.Goals as goal

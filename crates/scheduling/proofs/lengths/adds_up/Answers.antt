@@ -1,8 +1,6 @@
 -- What is left of the total after j lengths falls by each; a length over it leaves the sum over the total.
 use Prim.Native.Nat.{◌-◌}
-use native.Mathlib.Omega.{arith}
-use borrow.Author.Rules.{rules}
-use Rattle.scheduling.proofs.Sums.{Left, left_starts, left_goes, left_short, left_ends}
+use Rattle.scheduling.proofs.Sums.{left_starts, left_goes, left_short}
 use Rattle.scheduling.proofs.lengths.adds_up.Goals as goal
 
 pub loop-j-init : goal.loop-j-init

@@ -1,10 +1,8 @@
 -- The sum so far is where part j begins.
-use mathlib.Core.Path.{◌≡◌, sym, ap, ◌∙◌}
-use Prim.Native.Nat.{ℕ, ◌+◌, ◌-◌, ◌≤◌}
+use mathlib.Core.Path.{sym, ap, ◌∙◌}
+use Prim.Native.Nat.{ℕ, ◌+◌, ◌-◌}
 use native.Mathlib.Omega.{arith}
-use borrow.Author.Rules.{rules}
 use lib.ListN.{get_or}
-use Rattle.seats.specs.Room.{begin_of}
 use Rattle.seats.proofs.Begins.{ends_before}
 use Rattle.scheduling.proofs.Sums.{begin_zero, begin_more}
 use Rattle.scheduling.proofs.lengths.begin_of.Goals as goal

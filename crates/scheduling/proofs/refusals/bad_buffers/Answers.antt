@@ -1,5 +1,4 @@
 -- Each test is one of the definition's.
-use borrow.Author.Rules.{rules}
 use Rattle.seats.specs.Turn.{bad_buffers}
 use Rattle.scheduling.proofs.refusals.bad_buffers.Goals as goal
 

@@ -1,11 +1,8 @@
 -- The seats asked so far.
-use mathlib.Core.Path.{◌≡◌, refl, ap, ◌∙◌}
-use Prim.Native.Nat.{◌-◌, ◌≤◌}
+use mathlib.Core.Path.{refl}
+use Prim.Native.Nat.{◌-◌}
 use native.Mathlib.Omega.{arith}
-use borrow.Author.Rules.{rules}
-use Rattle.slices.specs.Lists.{mapped}
-use Rattle.run_numbers.specs.Runs.{state_of}
-use Rattle.seats.specs.Turn.{bad_position, any_of}
+use Rattle.seats.specs.Turn.{any_of}
 use Rattle.scheduling.proofs.Numbers.{any_more}
 use Rattle.scheduling.proofs.refusals.bad_positions.Goals as goal
 

@@ -1,12 +1,11 @@
 -- The loop's invariant is that what is left of the search is the search; each need is one of its laws.
-use mathlib.Core.Path.{◌≡◌, refl, sym, ◌∙◌}
+use mathlib.Core.Path.{◌≡◌, sym, ◌∙◌}
 use Prim.Native.Nat.{◌+◌, ◌-◌, ◌*◌}
 use native.Mathlib.Omega.{arith}
-use borrow.Author.Rules.{rules}
 use Rattle.slices.specs.Lists.{mapped}
 use Rattle.run_numbers.specs.Runs.{state_of}
 use Rattle.scheduling.specs.internal.Search.{goes_by}
-use Rattle.scheduling.proofs.Finding.{Searching, goes_told, search_goes, search_finds, search_ends}
+use Rattle.scheduling.proofs.Finding.{goes_told, search_goes, search_finds, search_ends}
 use Rattle.scheduling.proofs.search.next_seat.Goals as goal
 use Rattle.scheduling.proofs.search.next_seat.Goals.{After-can_go}
 
