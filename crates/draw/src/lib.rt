@@ -1,6 +1,7 @@
 // Sheets drawn for members: the function that a host calls.
 #![tactic(auto)]
 
+ghost use Rattle.std.specs.Prelude.{◌≡◌};
 ghost use Rattle.drawings.specs.Drawn.{lent, outcome, size_fault, DrawnAs};
 
 use rules::{MAX_LIST_SIZE, SHEET_SIZE};
