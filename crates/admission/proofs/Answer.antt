@@ -13,7 +13,7 @@ use Rattle.slices.proofs.Bools.{neither}
 use Rattle.slices.proofs.Checks.{Numbered, none_broken}
 use Rattle.slices.specs.Checks.{Check, check, first_broken}
 use Rattle.slices.specs.Sizes.{bank_size}
-use Rattle.rules.specs.Grounds.{each, listing_checks, bad_blank, bad_routine, bad_start, bad_entry, checks_by, admit_by, admit_of}
+use Rattle.rules.specs.Grounds.{each, bad_banks, bad_sheet, bad_list, bad_blank, bad_routine, bad_start, bad_entry, checks_by, admit_by, admit_of}
 use Rattle.rules.specs.Sheet.{Listing, routines, entry}
 use Rattle.rules.specs.internal.Scans.{or_else}
 use Rattle.rules.proofs.AdmittedRules.{numbered_address, one}
@@ -36,13 +36,16 @@ few_places Entries L ready = ready
 few_places Addresses L ready = omega arith
 
 module _ (L : Listing) where
-  numbered_sizes : Numbered (listing_checks L)
+  abbrev size_checks : List Check
+  size_checks = check 1 0 (bad_banks L) ∷ check 2 0 (bad_sheet L) ∷ check 3 0 (bad_list L) ∷ []
+
+  numbered_sizes : Numbered size_checks
   numbered_sizes = (omega arith, (omega arith, (omega arith, tt)))
 
   pub few_routines : sizes_of L ≡ 0 → routines L ≤ bank_size
   unfolding routines
   few_routines e =
-      let n = none_broken (listing_checks L) numbered_sizes e in
+      let n = none_broken size_checks numbered_sizes e in
       let odd = neither (eqb (length L.list % 2) 1) _ n.1.1.0 in
       let short = ltb-false _ (length L.list) (neither (eqb (length L.list) 0) _ odd.1).1 in
       omega (arith, short)
@@ -80,7 +83,7 @@ module _ (L : Listing) where
       let e7 = stage_then Entries _ (stage_each Addresses) in
       let e6 = ap (or_else (start_of L)) e7 ∙ first_append (check 6 0 (bad_start L) ∷ []) _ (omega arith, tt) in
       let e4 = stage_then Blanks _ (stage_then Routines _ e6) in
-      ap (or_else (sizes_of L)) e4 ∙ first_append (listing_checks L) _ numbered_sizes
+      ap (or_else (sizes_of L)) e4 ∙ first_append size_checks _ numbered_sizes
 
   pub admission : Bytes L.list → (answer : ℕ) → answer ≡ stages_of L → Admission L answer
   admission bytes answer e =

@@ -8,7 +8,7 @@ use Rattle.report.specs.Desk.{desk_text}
 use Rattle.pages.specs.Text.{ascii}
 use Rattle.lines.specs.Shown.{Shown}
 
--- listing A as an input: "0 `30 05`, 1 `A8 04`, 2 `F0 00`, 3 `F8 00`, 4 `5E 00`, 5 `10 01`, 6 `88 00`, 7 `Ac 00`"; "Sheet words: 8000 four
+-- listing A as an input: "0 `30 05`, 1 `A8 04`, 2 `F0 00`, 3 `F8 00`, 4 `5E 00`, 5 `10 01`, 6 `88 00`, 7 `AC 00`"; "Sheet words: 8000 four
 -- times, 8100, 8101, C101, C100", low byte first; "List: 00 02 04 01"
 abbrev pub input_a : List ℕ
 input_a =

@@ -8,16 +8,14 @@ use numbers::Fields;
 use printing::Printed;
 
 // The text of an instruction, or the number of its refusal.
-#[unsafe(no_mangle)]
-pub extern "C" fn cesca_print(fields: Fields) -> Printed
+pub fn cesca_print(fields: Fields) -> Printed
     ensures { PrintedAs fields result }
 {
     printing::print(numbers::instruction(fields))
 }
 
 // A text assembled into both banks, or the number and line of a refusal that leaves them as they were.
-#[unsafe(no_mangle)]
-pub extern "C" fn cesca_assemble(text: &[u8], opcodes: &mut [u8], arguments: &mut [u8]) -> Assembled
+pub fn cesca_assemble(text: &[u8], opcodes: &mut [u8], arguments: &mut [u8]) -> Assembled
     ensures { AssembledAs text.now opcodes.old arguments.old result opcodes.new arguments.new }
 {
     assembling::assemble(text, opcodes, arguments)

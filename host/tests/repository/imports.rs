@@ -1,4 +1,5 @@
-//! A file of `specs` is what a reader must believe, so it rests on no file of `proofs`.
+//! A file of `specs` is what a reader must believe, so it rests on no file of `proofs` of the
+//! repository. The toolchain's library has plain types in a module of that name.
 
 use crate::finding::{expect_none, messages, Finding};
 use crate::source::{below, crates, lines, Source};
@@ -9,8 +10,14 @@ fn findings(source: &Source) -> Vec<Finding> {
     found.map(|(at, line)| Finding::new(&source.file, at, line.trim())).collect()
 }
 
-/// Whether a line imports from proofs.
+/// What begins an import from the toolchain's library.
+const LIBRARY: &str = "use Rattle.std.";
+
+/// Whether a line imports from proofs of the repository.
 fn imports_proofs(line: &str) -> bool {
+    if line.starts_with(LIBRARY) {
+        return false;
+    }
     let mut words = line.split(|letter: char| !letter.is_alphanumeric());
     words.any(|word| word == "use") && words.any(|word| word == "proofs")
 }
@@ -25,15 +32,21 @@ fn no_definition_rests_on_a_proof() {
 
 #[test]
 fn an_import_from_proofs_is_found() {
-    let text = "-- use proofs\nuse lib.L.{getD}\nuse R·s.proofs.L.{m}\n  pub use a.proofs -- b\n";
+    let text = "-- use proofs\nuse lib.L.{getD}\nuse R.s.proofs.L.{m}\n  pub use a.proofs -- b\n";
     let source = Source::new("S.antt", text);
-    let wanted = ["S.antt:3: use R·s.proofs.L.{m}", "S.antt:4: pub use a.proofs"];
+    let wanted = ["S.antt:3: use R.s.proofs.L.{m}", "S.antt:4: pub use a.proofs"];
     assert_eq!(messages(findings(&source)), wanted);
 }
 
 #[test]
 fn other_lines_are_none() {
-    for line in ["use a.specs.B.{proofsOf}", "-- no use of proofs", "proofs use", "reuse proofs"] {
+    for line in [
+        "use a.specs.B.{proofsOf}",
+        "use Rattle.std.proofs.Math.Option.{none}",
+        "-- no use of proofs",
+        "proofs use",
+        "reuse proofs",
+    ] {
         let line = lines(line, "--").next().map_or("", |(_, line)| line);
         assert!(!imports_proofs(line), "{line}");
     }
