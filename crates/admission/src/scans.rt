@@ -22,6 +22,7 @@ enum Stage {
 }
 
 // 1, 2 or 3 for lengths that are not as they should be, or 0.
+#[tactic(auto, unfolding(slices::specs::Checks::first_broken))]
 fn sizes(opcodes: &[u8], arguments: &[u8], sheet: &[u8], list: &[u8]) -> u32
     ensures { result ≡ sizes_of (listing opcodes.now arguments.now sheet.now list.now) }
 {

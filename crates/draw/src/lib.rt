@@ -13,6 +13,7 @@ use slices::BANK_SIZE;
 pub struct Drawing(pub u8, pub u8);
 
 // 1, 2 or 3 for lengths that are not as they should be, or 0.
+#[tactic(auto, unfolding(drawings::specs::Drawn::size_fault, slices::specs::Checks::first_broken))]
 fn sizes(opcodes: &[u8], arguments: &[u8], sheet: &[u8], list: &[u8]) -> u8
     ensures { result ≡ size_fault (lent opcodes.now arguments.now sheet.now list.now) }
 {

@@ -8,6 +8,7 @@ use rules::{MAX_LIST_SIZE, SHEET_SIZE};
 use slices::BANK_SIZE;
 
 // 1, 2 or 3 for lengths that are not as they should be, or 0. The list's has room for 64 routines.
+#[tactic(auto, unfolding(slices::specs::Checks::first_broken))]
 pub fn buffer_sizes(opcodes: &[u8], arguments: &[u8], sheet: &[u8], list: &[u8]) -> u8
     ensures { result ≡ first_broken (buffer_checks (listing opcodes.now arguments.now sheet.now list.now)) }
 {
