@@ -9,8 +9,6 @@ ghost use Rattle.drawings.specs.internal.Cells.{bit};
 ghost use Rattle.drawings.specs.internal.Drafts.{is_entry, rank, low_byte, high_byte, sheet_of, list_of};
 ghost use Rattle.drafting.specs.internal.Writing.{numbers_of, rank_after, list_after};
 
-use slices::BANK_SIZE;
-
 // The most routines of a list; a sheet word has six bits for a routine's number.
 pub const MAX_ROUTINES: usize = 64;
 
@@ -40,11 +38,9 @@ pub fn number_routines(cells: &[u32], numbers: &mut [u8]) -> usize
     ensures { (result ≡ rank cells.now bank_size) × (result ≤ bank_size) × (numbers.new ≡ numbers_of cells.now) }
 {
     let mut routines: usize = 0;
-    let mut a: usize = 0;
-    while a < BANK_SIZE {
-        numbers[a] = (routines % MAX_ROUTINES) as u8;
-        routines = count_entry(cells, a as u8, routines);
-        a += 1;
+    for a in 0..=255u8 {
+        numbers[a as usize] = (routines % MAX_ROUTINES) as u8;
+        routines = count_entry(cells, a, routines);
     }
     routines
 }
@@ -76,12 +72,11 @@ pub fn write_sheet(cells: &[u32], numbers: &[u8], out: &mut [u8])
     requires { (length out.old ≡ sheet_size) × (numbers.now ≡ numbers_of cells.now) }
     ensures { out.new ≡ sheet_of cells.now }
 {
-    let mut a: usize = 0;
-    while a < BANK_SIZE {
-        let w = sheet_word(cells, numbers, a as u8);
-        out[2 * a] = w.0;
-        out[2 * a + 1] = w.1;
-        a += 1;
+    for a in 0..=255u8 {
+        let w = sheet_word(cells, numbers, a);
+        let i = 2 * (a as usize);
+        out[i] = w.0;
+        out[i + 1] = w.1;
     }
 }
 
@@ -105,9 +100,7 @@ pub fn write_list(cells: &[u32], out: &mut [u8])
     ensures { out.new ≡ padded max_list_size (list_of cells.now) }
 {
     let mut n: usize = 0;
-    let mut a: usize = 0;
-    while a < BANK_SIZE {
-        n = write_entry(cells, a as u8, n, out);
-        a += 1;
+    for a in 0..=255u8 {
+        n = write_entry(cells, a, n, out);
     }
 }

@@ -10,7 +10,6 @@ ghost use Rattle.drawings.specs.internal.Impossible.{impossible, Refutes, Settle
 use cells::{unpack, word_of};
 use drawings::Cell;
 use isa::Class;
-use slices::BANK_SIZE;
 use visiting::class_at;
 
 // The address that comes at a place of a pass: upwards or downwards.
@@ -26,10 +25,8 @@ fn pass(opcodes: &[u8], arguments: &[u8], cells: &mut [u32], up: bool) -> bool
     ensures { Passes (banks opcodes.now arguments.now) cells.old cells.new result }
 {
     let mut changed = false;
-    let mut i: usize = 0;
-    while i < BANK_SIZE {
-        changed = changed | visiting::visit(opcodes, arguments, cells, turn(up, i as u8));
-        i += 1;
+    for place in 0..=255u8 {
+        changed |= visiting::visit(opcodes, arguments, cells, turn(up, place));
     }
     changed
 }
@@ -70,14 +67,7 @@ fn is_hopeless(opcodes: &[u8], arguments: &[u8], cells: &[u32]) -> bool
     requires { Visits (banks opcodes.now arguments.now) cells.now }
     ensures { Refutes (banks opcodes.now arguments.now) result }
 {
-    let mut i: usize = 0;
-    while i < BANK_SIZE {
-        if hinders(opcodes, arguments, cells, i as u8) {
-            return true;
-        }
-        i += 1;
-    }
-    false
+    (0..=255u8).any(|a| hinders(opcodes, arguments, cells, a))
 }
 
 // The cells are settled; or false, and then nothing can be admitted, as most banks of no use show

@@ -1,10 +1,6 @@
 -- The count is the rank of the address that the loop has come to.
-use Prim.Native.Nat.{◌-◌}
 use Rattle.drafting.proofs.Numbering.{Numbering}
 use Rattle.drafting.proofs.number_routines.Given as goal
 
 abbrev pub invariant-loop-a : goal.invariant-loop-a
 invariant-loop-a l = Numbering l.cells l.numbers l.routines l.a
-
-abbrev pub decreases-loop-a : goal.decreases-loop-a
-decreases-loop-a l = 256 - l.a

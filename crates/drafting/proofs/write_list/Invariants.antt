@@ -1,10 +1,6 @@
 -- Of each address that the loop has passed the list has what it says of it.
-use Prim.Native.Nat.{◌-◌}
 use Rattle.drafting.proofs.Entering.{Entering}
 use Rattle.drafting.proofs.write_list.Given as goal
 
 abbrev pub invariant-loop-a : goal.invariant-loop-a
 invariant-loop-a l = Entering l.cells l.out l.n l.a
-
-abbrev pub decreases-loop-a : goal.decreases-loop-a
-decreases-loop-a l = 256 - l.a

@@ -1,10 +1,10 @@
 -- Each address comes once, whichever way; what is answered false has changed nothing.
-use Prim.Native.Nat.{◌-◌}
+use native.Mathlib.Omega.{arith}
 use Rattle.settling.proofs.Passing.{pass_on, pass_end}
 use Rattle.settling.proofs.pass.Goals as goal
 
-pub loop-i-preserved : goal.loop-i-preserved
-loop-i-preserved c = pass_on c.loop-i.invariant c.loop-i-test.true c.turn.ensures c.visit-changed.ensures
+pub loop-place-preserved : goal.loop-place-preserved
+loop-place-preserved c = pass_on c.loop-place.invariant (omega arith) c.turn.ensures c.visit-changed.ensures
 
-pub returns : goal.returns
-returns c = pass_end c.loop-i.invariant c.loop-i-test.false
+pub returns-2 : goal.returns-2
+returns-2 c = pass_end (pass_on c.loop-place.invariant (omega arith) c.turn.ensures c.visit-changed.ensures) (omega arith)

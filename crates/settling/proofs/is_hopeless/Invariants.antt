@@ -1,9 +1,0 @@
--- The first that hinders is enough.
-use Prim.Native.Nat.{◌-◌, ◌≤◌}
-use Rattle.settling.proofs.is_hopeless.Given as goal
-
-abbrev pub invariant-loop-i : goal.invariant-loop-i
-invariant-loop-i l = l.i ≤ 256
-
-abbrev pub decreases-loop-i : goal.decreases-loop-i
-decreases-loop-i l = 256 - l.i
