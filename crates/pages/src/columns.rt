@@ -40,10 +40,8 @@ pub fn write_right(out: &mut [u8], at: usize, width: usize, n: u32) -> usize
     ensures { page out.new result ≡ write_of (right_aligned width (decimal n)) (page out.old at) }
 {
     let mut next = at;
-    let mut column = digit_count(n);
-    while column < width {
+    for _column in digit_count(n)..width {
         next = put(out, next, b' ');
-        column += 1;
     }
     write_decimal(out, next, n)
 }

@@ -24,10 +24,8 @@ pub fn write(out: &mut [u8], at: usize, text: &[u8]) -> usize
     ensures { page out.new result ≡ write_of text.now (page out.old at) }
 {
     let mut next = at;
-    let mut i: usize = 0;
-    while i < text.len() {
-        next = put(out, next, text[i]);
-        i += 1;
+    for x in text {
+        next = put(out, next, *x);
     }
     next
 }

@@ -2,8 +2,8 @@
 use Rattle.pages.proofs.Pages.{write_goes, write_ends}
 use Rattle.pages.proofs.write.Goals as goal
 
-pub loop-i-preserved : goal.loop-i-preserved
-loop-i-preserved c = write_goes c.loop-i.invariant c.loop-i-test.true c.put-next.ensures c.put-next.auto.out
+pub loop-x-preserved : goal.loop-x-preserved
+loop-x-preserved c = write_goes c.loop-x.invariant c.loop-x-test.true c.put-next.ensures c.put-next.auto.out
 
 pub returns : goal.returns
-returns c = write_ends c.loop-i.invariant c.loop-i-test.false
+returns c = write_ends c.loop-x.invariant c.loop-x-test.false
