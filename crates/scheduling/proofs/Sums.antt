@@ -1,49 +1,39 @@
--- Lengths that add up: what is left of a total falls by each of them.
+-- Lengths that add up: where a part begins is the sum of the lengths before it, and what is left of a total falls by each.
 -- Assumes nothing.
-use mathlib.Core.Path.{◌≡◌, refl, sym, ◌∙◌}
+use mathlib.Core.Path.{◌≡◌, refl, sym, ap, ◌∙◌}
 use mathlib.Core.Bool.{false}
-use mathlib.Core.List.{List}
-use Prim.Native.Nat.{ℕ, ◌+◌, ◌-◌, ◌≤◌, ◌<◌}
-use native.Mathlib.Numerals.{add-one}
+use mathlib.Core.List.{List, [], ◌∷◌}
+use Prim.Native.Nat.{ℕ, ◌+◌, ◌≤◌, ◌<◌}
 use native.Mathlib.Omega.{arith}
 use lib.Dec.{eqb}
+use lib.ListN.{length, get_or, take}
 use borrow.Author.Tests.{eqb-true, eqb-false, eq-eqb, ne_eqb}
+use Rattle.std.proofs.Common.{take_all}
+use Rattle.std.specs.List.{sum}
+use Rattle.std.proofs.lemmas.List.Sums.{sum_by-cons, sum_by_more_le}
+use Rattle.slices.specs.Lists.{total_of}
 use Rattle.slices.proofs.Bools.{by_test}
-use Rattle.seats.specs.Room.{begin_of, length_at}
-use Rattle.seats.proofs.Begins.{begin_next, ends_before}
+use Rattle.seats.specs.Room.{begin_of}
 
-pub begin_zero : (l : List ℕ) → begin_of l 0 ≡ 0
+total_is : (l : List ℕ) → total_of l ≡ sum l
+total_is [] = refl
+total_is (x ∷ l) = ap (λ (n : ℕ). x + n) (total_is l) ∙ sym (sum_by-cons (λ (n : ℕ). n) x l)
+
+pub begin_is : (l : List ℕ) (i : ℕ) → begin_of l i ≡ sum (take i l)
 unfolding begin_of
-begin_zero l = refl
+begin_is l i = total_is (take i l)
 
-pub begin_more : (l : List ℕ) (j : ℕ) → begin_of l (j + 1) ≡ begin_of l j + length_at l j
-begin_more l j = rw (add-one j) (begin_next l j)
-
--- what is left of a total after j lengths
-pub record Left (l : List ℕ) (n total left j : ℕ) : Type 0 where
-  pub within : j ≤ n
-  pub split : left + begin_of l j ≡ total
-
-pub left_starts : (l : List ℕ) (n total : ℕ) → Left l n total total 0
-left_starts l n total = let e : begin_of l 0 ≡ 0 = begin_zero l in record { within = omega arith; split = omega arith }
-
-module _ {l : List ℕ} {n total left j : ℕ} (h : Left l n total left j) where
-  pub left_goes : j < n → length_at l j ≤ left → Left l n total (left - length_at l j) (j + 1)
-  left_goes k g =
-      let e : begin_of l (j + 1) ≡ begin_of l j + length_at l j = begin_more l j in
-      record { within = omega arith; split = omega (arith, h.split) }
-
+module _ (l : List ℕ) (j left total : ℕ) (h : left + sum (take j l) ≡ total) where
   -- a length over what is left: the sum is over the total
-  pub left_short : j < n → left < length_at l j → false ≡ eqb (begin_of l n) total
+  pub left_short : j < length l → (get_or l j 0 ≤ left → ⊥) → false ≡ eqb (sum l) total
   left_short k g =
-      let e : begin_of l j + length_at l j ≤ begin_of l n = ends_before l j n k in
-      let u : eqb (begin_of l n) total ≡ false = ne_eqb (begin_of l n) total (omega (arith, h.split)) in
-      sym u
+      let e : sum (take j l) + get_or l j 0 ≤ sum l = sum_by_more_le (λ (n : ℕ). n) l j 0 k in
+      sym (ne_eqb (sum l) total (omega arith))
 
-  pub left_ends : n ≤ j → eqb left 0 ≡ eqb (begin_of l n) total
+  -- every length is taken off
+  pub left_ends : length l ≤ j → eqb left 0 ≡ eqb (sum l) total
   left_ends k =
-      let q : j ≡ n = omega (arith, h.within) in
-      let s : left + begin_of l n ≡ total = rw q at h.split in
+      let s : left + sum l ≡ total = rw (take_all j l k) at h in
       by_test (eqb left 0)
-      (λ e. let z : left ≡ 0 = eqb-true left 0 e in e ∙ sym (eq-eqb (begin_of l n) total (omega arith)))
-      (λ e. let z = eqb-false left 0 e in e ∙ sym (ne_eqb (begin_of l n) total (omega arith)))
+      (λ e. let z : left ≡ 0 = eqb-true left 0 e in e ∙ sym (eq-eqb (sum l) total (omega arith)))
+      (λ e. let z = eqb-false left 0 e in e ∙ sym (ne_eqb (sum l) total (omega arith)))

@@ -7,13 +7,7 @@ pub fn begin_of(lengths: [usize; 8], i: usize) -> usize
     requires { (i ≤ max_seats) × (begin_of lengths i < 2 ^ 64) }
     ensures { result ≡ begin_of lengths i }
 {
-    let mut begin = 0;
-    let mut j = 0;
-    while j < i {
-        begin = begin + lengths[j];
-        j = j + 1;
-    }
-    begin
+    lengths[..i].iter().sum()
 }
 
 // Whether the lengths of n seats add up to a total. Each is taken off it, so that no sum overflows.
@@ -22,14 +16,11 @@ pub fn adds_up(lengths: [usize; 8], n: usize, total: usize) -> bool
     ensures { result ≡ eqb (begin_of lengths n) total }
 {
     let mut left = total;
-    let mut j = 0;
-    while j < n {
-        let length = lengths[j];
-        if left < length {
+    for length in &lengths[..n] {
+        let Some(rest) = left.checked_sub(*length) else {
             return false;
-        }
-        left = left - length;
-        j = j + 1;
+        };
+        left = rest;
     }
     left == 0
 }

@@ -1,5 +1,5 @@
 // The rules of a turn's call.
-ghost use Rattle.std.specs.Prelude.{◌≡◌, ◌≤◌};
+ghost use Rattle.std.specs.Prelude.{◌≡◌, ◌≤◌, ◌<◌};
 ghost use Rattle.slices.specs.Lists.{mapped};
 ghost use Rattle.run_numbers.specs.Runs.{state_of};
 ghost use Rattle.seats.specs.Room.{max_seats};
@@ -39,8 +39,24 @@ fn bad_buffers(
         | !rolls_fit
 }
 
-// Whether any of n seats has a key position or a roll position past its end, by the lengths of their
-// keys and rolls.
+// Whether seat i has a key position or a roll position past its end, by the lengths of the seats' keys
+// and rolls.
+fn bad_position(
+    i: usize,
+    keys: [usize; 8],
+    rolls: [usize; 8],
+    states: [StateNumbers; 8],
+    positions: [usize; 8],
+) -> bool
+    requires { i < max_seats }
+    ensures { result ≡ bad_position keys rolls (mapped state_of states) positions i }
+{
+    let x = states[i];
+    let key_position = x.9;
+    (keys[i] < key_position) | (rolls[i] < positions[i])
+}
+
+// Whether any of n seats has one.
 fn bad_positions(
     n: usize,
     keys: [usize; 8],
@@ -51,15 +67,7 @@ fn bad_positions(
     requires { n ≤ max_seats }
     ensures { result ≡ any_of (bad_position keys rolls (mapped state_of states) positions) n }
 {
-    let mut any = false;
-    let mut i = 0;
-    while i < n {
-        let x = states[i];
-        let key_position = x.9;
-        any = any | ((keys[i] < key_position) | (rolls[i] < positions[i]));
-        i = i + 1;
-    }
-    any
+    (0..n).any(|i| bad_position(i, keys, rolls, states, positions))
 }
 
 // 28, 29, 17 or 18 for a call that breaks a rule, the first that it breaks, or 0.

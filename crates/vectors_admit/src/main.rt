@@ -34,11 +34,9 @@ fn print_answer(
 
 // Each address is described in routine 0, at a depth that rises from 0.
 fn describe(sheet: &mut [u8]) {
-    let mut a: usize = 0;
-    while a < BANK_SIZE {
+    for a in 0..BANK_SIZE {
         put(sheet, 2 * a, a as u8);
         put(sheet, 2 * a + 1, 0x80);
-        a += 1;
     }
 }
 
@@ -86,16 +84,9 @@ fn calls_itself(need: u8) -> u32 {
     admission::cesca_admit(&opcodes, &arguments, &sheet, &list)
 }
 
-// The lowest need that is not refused by 15 at 0, or 256.
-fn needs_refused() -> usize {
-    let mut need: usize = 0;
-    while need < 256 {
-        if calls_itself(need as u8) != 15 {
-            return need;
-        }
-        need += 1;
-    }
-    256
+// The lowest need that is not refused by 15 at 0, if there is one.
+fn lowest_need() -> Option<u8> {
+    (0..=255).find(|need| calls_itself(*need) != 15)
 }
 
 fn main(rt: HostRuntime) -> io::Result<()> {
@@ -103,6 +94,6 @@ fn main(rt: HostRuntime) -> io::Result<()> {
     pushes(&rt, b"a push at 255 instead", 0x5C)?;
     pushes(&rt, b"nop at 255", 0xFC)?;
     growing_loop(&rt)?;
-    let needs = needs_refused();
+    let needs = lowest_need().map_or(256, usize::from);
     println!(rt; "a routine that calls itself: 15 at 0 for the needs below {needs}")
 }

@@ -33,13 +33,10 @@ fn state(pc: u8, sp: u8, r0: u8) -> State {
 // A listing's words, opcode and argument by turns, put into the two banks from an address on; 32
 // words, those past its end 00.
 fn key_in(listing: &[u8], at: u8, opcodes: &mut [u8], arguments: &mut [u8]) {
-    let mut i: usize = 0;
-    let mut a = at;
-    while i < 32 {
+    for i in 0..32 {
+        let a = std::num::wrapping_add_u8(at, i as u8);
         slices::store(opcodes, a, slices::byte_at(listing, 2 * i));
         slices::store(arguments, a, slices::byte_at(listing, 2 * i + 1));
-        a = std::num::wrapping_add_u8(a, 1);
-        i += 1;
     }
 }
 

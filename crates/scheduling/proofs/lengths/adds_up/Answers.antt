@@ -1,13 +1,9 @@
--- What is left of the total after j lengths falls by each; a length over it leaves the sum over the total.
-use Prim.Native.Nat.{◌-◌}
-use Rattle.scheduling.proofs.Sums.{left_starts, left_goes, left_short}
+-- A length over what is left: the sum is over the total. Once every length is taken off, nothing is left where they add up.
+use Rattle.scheduling.proofs.Sums.{begin_is, left_short, left_ends}
 use Rattle.scheduling.proofs.lengths.adds_up.Goals as goal
 
-pub loop-j-init : goal.loop-j-init
-loop-j-init c = left_starts _ _ _
+pub returns-in_default : goal.returns-in_default
+returns-in_default c = rw begin_is (left_short _ _ _ _ c.loop-length.invariant c.loop-length-test.true c.in_default.ensures)
 
-pub returns-then-left-length : goal.returns-then-left-length
-returns-then-left-length c = left_short c.loop-j.invariant c.loop-j-test.true c.if-left-length.true
-
-pub loop-j-preserved : goal.loop-j-preserved
-loop-j-preserved c = left_goes c.loop-j.invariant c.loop-j-test.true c.if-left-length.false
+pub returns : goal.returns
+returns c = rw begin_is (left_ends _ _ _ _ c.loop-length.invariant c.loop-length-test.false)

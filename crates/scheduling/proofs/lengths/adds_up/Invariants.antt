@@ -1,10 +1,6 @@
--- What is left of the total after j lengths falls by each; a length over it leaves the sum over the total.
-use Prim.Native.Nat.{◌-◌}
-use Rattle.scheduling.proofs.Sums.{Left}
+-- What is left and the lengths before are the total.
+use Rattle.std.proofs.Common.{◌≡◌, ◌+◌, sum, take}
 use Rattle.scheduling.proofs.lengths.adds_up.Given as goal
 
-abbrev pub invariant-loop-j : goal.invariant-loop-j
-invariant-loop-j l = Left l.lengths l.n l.total l.left l.j
-
-abbrev pub decreases-loop-j : goal.decreases-loop-j
-decreases-loop-j l = l.n - l.j
+abbrev pub invariant-loop-length : goal.invariant-loop-length
+invariant-loop-length l = l.left + sum (take l.length-index l.length-items) ≡ l.total
