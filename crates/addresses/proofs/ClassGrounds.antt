@@ -1,6 +1,6 @@
 -- The rules 9 to 16 by class, in the tests that the code makes.
 -- Assumes nothing.
-use Rattle.std.proofs.Common.{◌≡◌, ℕ, ◌+◌, ◌-◌, ◌*◌, ◌%◌, Bool, cond, not, ◌&&◌, ◌||◌, eqb, ltb, List, []}
+use Rattle.std.proofs.Common.{◌≡◌, ℕ, ◌+◌, ◌*◌, ◌%◌, Bool, cond, not, ◌&&◌, ◌||◌, eqb, ltb, List, []}
 use mathlib.Core.Bool.{and-true, and-false, or-false}
 use Rattle.isa.specs.declared.Class.TheVariants as class
 use Rattle.isa.specs.declared.OverflowEffect.TheVariants.{Keeps}

@@ -12,7 +12,7 @@ ghost use Rattle.addresses.specs.internal.Parts.{without_banks, class_checks, En
 
 use isa::{Class, OverflowEffect};
 use sheets::grounds::{bad_successor, first};
-use sheets::{entry_of, need_of, widen, word_at};
+use sheets::{entry_of, need_of, word_at};
 use slices::load;
 use std::num::wrapping_add_u8;
 
@@ -25,13 +25,6 @@ pub fn mark_after(effect: OverflowEffect, marked: bool) -> bool
         OverflowEffect::Settles => true,
         OverflowEffect::Unsettles => false,
     }
-}
-
-// One less than a depth, or 0.
-fn one_less(depth: u8) -> u16
-    ensures { result ≡ depth - 1 }
-{
-    if 0 < depth { widen(depth) - 1 } else { 0 }
 }
 
 // 9 to 16 where the next word is the one successor, at this depth and with V marked or not.
@@ -55,7 +48,7 @@ fn branch_ground(
 ) -> u32
     ensures { result ≡ first_broken (class_checks (without_banks sheet.now []) a (Branch target tests) routine depth marked) }
 {
-    let kept = widen(depth);
+    let kept = u16::from(depth);
     let bad_target = bad_successor(sheet, target, routine, kept, marked);
     let bad_next = bad_successor(sheet, wrapping_add_u8(a, 1), routine, kept, marked);
     let rest = first(a == 255, 13, a, first(bad_target | bad_next, 16, a, 0));
@@ -77,10 +70,16 @@ fn call_ground(sheet: &[u8], list: &[u8], a: u8, target: u8, routine: u8, depth:
 {
     let w = word_at(sheet, target);
     let callee = w.routine;
-    let need = widen(need_of(list, routine));
-    let with_return = widen(depth) + 1;
-    let total = with_return + widen(need_of(list, callee));
-    let bad = bad_successor(sheet, wrapping_add_u8(a, 1), routine, widen(depth), false);
+    let need = u16::from(need_of(list, routine));
+    let with_return = u16::from(depth) + 1;
+    let total = with_return + u16::from(need_of(list, callee));
+    let bad = bad_successor(
+        sheet,
+        wrapping_add_u8(a, 1),
+        routine,
+        u16::from(depth),
+        false,
+    );
     let after = first(need < total, 15, a, first(bad, 16, a, 0));
     first(
         a == 255,
@@ -105,10 +104,16 @@ fn class_ground(
 {
     match class {
         Class::Next(effect) => {
-            next_word_ground(sheet, a, routine, widen(depth), mark_after(effect, marked))
+            next_word_ground(
+                sheet,
+                a,
+                routine,
+                u16::from(depth),
+                mark_after(effect, marked),
+            )
         }
         Class::Jump(target) => {
-            let bad_target = bad_successor(sheet, target, routine, widen(depth), marked);
+            let bad_target = bad_successor(sheet, target, routine, u16::from(depth), marked);
             first(bad_target, 16, a, 0)
         }
         Class::Branch(target, tests) => {
@@ -117,13 +122,19 @@ fn class_ground(
         Class::JumpReg => first(true, 9, a, 0),
         Class::Call(target) => call_ground(sheet, list, a, target, routine, depth),
         Class::Return => first((routine == 0) | (0 < depth), 12, a, 0),
-        Class::Push(_) => next_word_ground(sheet, a, routine, widen(depth) + 1, marked),
+        Class::Push(_) => next_word_ground(sheet, a, routine, u16::from(depth) + 1, marked),
         Class::Pop => {
-            let after_pop = next_word_ground(sheet, a, routine, one_less(depth), marked);
+            let after_pop = next_word_ground(
+                sheet,
+                a,
+                routine,
+                u16::from(depth.saturating_sub(1)),
+                marked,
+            );
             first(depth == 0, 11, a, after_pop)
         }
         Class::Swap(_) => {
-            let after_swap = next_word_ground(sheet, a, routine, widen(depth), marked);
+            let after_swap = next_word_ground(sheet, a, routine, u16::from(depth), marked);
             first(depth == 0, 11, a, after_swap)
         }
         Class::Halt => 0,

@@ -33,26 +33,12 @@ pub fn unpack(w: u32) -> Cell
     }
 }
 
-// 1 for true.
-fn bit_of(v: bool) -> u32
-    ensures { (result ≡ bit v) × (result ≤ 1) }
-{
-    if v { 1 } else { 0 }
-}
-
-// The larger of two needs.
-fn larger_of(x: u8, y: u8) -> u8
-    ensures { result ≡ larger x y }
-{
-    if x < y { y } else { x }
-}
-
 // The word of a cell.
 fn pack(c: Cell) -> u32
     ensures { result ≡ packed c }
 {
-    let numbers = (c.need as u32) + 256 * (c.depth as u32) + 65536 * (c.entry as u32);
-    numbers + 16777216 * bit_of(c.mark) + REACHED
+    let numbers = u32::from(c.need) + 256 * u32::from(c.depth) + 65536 * u32::from(c.entry);
+    numbers + 16777216 * u32::from(c.mark) + REACHED
 }
 
 // The cell of an entry with this need.
@@ -60,10 +46,10 @@ pub fn entry_cell(entry: u8, need: u8) -> Cell
     ensures { result ≡ entry_cell entry need }
 {
     Cell {
-        entry: entry,
+        entry,
         depth: 0,
         mark: false,
-        need: need,
+        need,
     }
 }
 
@@ -72,10 +58,9 @@ fn join(c: Cell, want: Cell) -> Cell
     ensures { result ≡ joined c want }
 {
     Cell {
-        entry: c.entry,
-        depth: c.depth,
         mark: c.mark & want.mark,
-        need: larger_of(c.need, want.need),
+        need: c.need.max(want.need),
+        ..c
     }
 }
 

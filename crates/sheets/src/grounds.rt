@@ -3,14 +3,14 @@ ghost use Rattle.std.specs.Prelude.{◌+◌, ◌*◌, ◌≡◌, cond, get_or};
 ghost use Rattle.sheets.specs.internal.Words.{word_of};
 ghost use Rattle.sheets.specs.internal.Tests.{bad_blank_word, bad_routine_word, bad_entry_word, bad_word};
 
-use super::{entry_of, widen, word_at};
+use super::{entry_of, word_at};
 
 // A broken rule's number and place, or what the rules after it answer.
 pub fn first(broken: bool, number: u8, place: u8, rest: u32) -> u32
     ensures { result ≡ cond broken (number + 256 * place) rest }
 {
     if broken {
-        (number as u32) + 256 * (place as u32)
+        u32::from(number) + 256 * u32::from(place)
     } else {
         rest
     }
@@ -50,5 +50,5 @@ pub fn bad_successor(sheet: &[u8], to: u8, routine: u8, depth: u16, mark: bool) 
     ensures { result ≡ bad_word (word_of sheet.now to) routine depth mark }
 {
     let w = word_at(sheet, to);
-    !w.described | ((w.routine != routine) | ((widen(w.depth) != depth) | (w.marked & !mark)))
+    !w.described | ((w.routine != routine) | ((u16::from(w.depth) != depth) | (w.marked & !mark)))
 }

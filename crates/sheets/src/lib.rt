@@ -21,13 +21,6 @@ pub struct Word {
     pub depth: u8,
 }
 
-// A byte as a wider number.
-pub fn widen(b: u8) -> u16
-    ensures { result ≡ b }
-{
-    b as u16
-}
-
 // The parts of a word.
 fn parts(n: u16) -> Word
     ensures { result ≡ parts_of n }
@@ -46,8 +39,8 @@ pub fn word_at(sheet: &[u8], a: u8) -> Word
     ensures { result ≡ word_of sheet.now a }
 {
     let i = 2 * (a as usize);
-    let low = widen(byte_at(sheet, i));
-    let high = widen(byte_at(sheet, i + 1));
+    let low = u16::from(byte_at(sheet, i));
+    let high = u16::from(byte_at(sheet, i + 1));
     parts(low + 256 * high)
 }
 

@@ -16,13 +16,6 @@ use isa::Class;
 use slices::load;
 use std::num::wrapping_add_u8;
 
-// One less than a depth, or 0.
-fn one_less(depth: u8) -> u8
-    ensures { result ≡ depth - 1 }
-{
-    if 0 < depth { depth - 1 } else { 0 }
-}
-
 // The need that a call at a depth asks of its routine, 255 at most.
 fn call_room(depth: u8, need: u8) -> u8
     ensures { result ≡ capped (depth + 1 + need) }
@@ -57,10 +50,10 @@ fn follow(c: Cell, depth: u8, mark: bool) -> Cell
     ensures { result ≡ cell c.entry depth mark 0 }
 {
     Cell {
-        entry: c.entry,
-        depth: depth,
-        mark: mark,
+        depth,
+        mark,
         need: 0,
+        ..c
     }
 }
 
@@ -82,7 +75,7 @@ fn meet_successors(cells: &mut [u32], class: Class, a: u8, c: Cell) -> bool
         Class::Call(_) => meet(cells, next, follow(c, c.depth, false)),
         Class::Return => false,
         Class::Push(_) => meet(cells, next, follow(c, wrapping_add_u8(c.depth, 1), c.mark)),
-        Class::Pop => meet(cells, next, follow(c, one_less(c.depth), c.mark)),
+        Class::Pop => meet(cells, next, follow(c, c.depth.saturating_sub(1), c.mark)),
         Class::Swap(_) => meet(cells, next, same),
         Class::Halt => false,
     }

@@ -3,4 +3,4 @@ use Rattle.addresses.proofs.ClassGrounds.{branch}
 use Rattle.addresses.proofs.branch_ground.Goals as goal
 
 pub returns : goal.returns
-returns c = rw (c.first-2.ensures, c.first-rest.ensures, c.first.ensures, c.bad_successor-bad_next.ensures, c.wrapping_add_u8.ensures.value, c.bad_successor-bad_target.ensures, c.widen-kept.ensures) (let a = c.args in branch a.sheet.now a.a a.routine a.depth a.marked a.target a.tests)
+returns c = rw (c.first-2.ensures, c.first-rest.ensures, c.first.ensures, c.bad_successor-bad_next.ensures, c.wrapping_add_u8.ensures.value, c.bad_successor-bad_target.ensures, c.from-kept.ensures) (let a = c.args in branch a.sheet.now a.a a.routine a.depth a.marked a.target a.tests)

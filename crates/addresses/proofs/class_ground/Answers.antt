@@ -7,11 +7,11 @@ use Rattle.addresses.proofs.class_ground.Goals as goal
 
 pub returns-in-Next : goal.returns-in-Next
 unfolding first_broken word described marked routine depth
-returns-in-Next c = rw (c.next_word_ground.ensures, c.mark_after.ensures, c.widen.ensures, c.in-Next.is)
+returns-in-Next c = rw (c.next_word_ground.ensures, c.mark_after.ensures, c.from.ensures, c.in-Next.is)
 
 pub returns-in-Jump : goal.returns-in-Jump
 unfolding first_broken word described marked routine depth
-returns-in-Jump c = rw (c.first.ensures, c.bad_successor-bad_target.ensures, c.widen-in-Jump.ensures, c.in-Jump.is) (let a = c.args in tests.jump a.sheet.now a.a a.routine a.depth a.marked a.list.now _)
+returns-in-Jump c = rw (c.first.ensures, c.bad_successor-bad_target.ensures, c.from-in-Jump.ensures, c.in-Jump.is) (let a = c.args in tests.jump a.sheet.now a.a a.routine a.depth a.marked a.list.now _)
 
 pub returns-in-Branch : goal.returns-in-Branch
 unfolding first_broken word described marked routine depth
@@ -27,15 +27,15 @@ returns-in-Return c = rw (c.first-in-Return.ensures, c.in-Return.is) (let a = c.
 
 pub returns-in-Push : goal.returns-in-Push
 unfolding first_broken word described marked routine depth
-returns-in-Push c = rw (c.next_word_ground-in-Push.ensures, c.widen-in-Push.ensures, c.in-Push.is)
+returns-in-Push c = rw (c.next_word_ground-in-Push.ensures, c.from-in-Push.ensures, c.in-Push.is)
 
 pub returns-in-Pop : goal.returns-in-Pop
 unfolding first_broken word described marked routine depth
-returns-in-Pop c = rw (c.first-in-Pop.ensures, c.next_word_ground-after_pop.ensures, c.one_less.ensures, c.in-Pop.is) refl
+returns-in-Pop c = rw (c.first-in-Pop.ensures, c.next_word_ground-after_pop.ensures, c.from-in-Pop.ensures, c.saturating_sub.ensures, c.in-Pop.is) refl
 
 pub returns-in-Swap : goal.returns-in-Swap
 unfolding first_broken word described marked routine depth
-returns-in-Swap c = rw (c.first-in-Swap.ensures, c.next_word_ground-after_swap.ensures, c.widen-in-Swap.ensures, c.in-Swap.is) refl
+returns-in-Swap c = rw (c.first-in-Swap.ensures, c.next_word_ground-after_swap.ensures, c.from-in-Swap.ensures, c.in-Swap.is) refl
 
 pub returns-in-Halt : goal.returns-in-Halt
 unfolding first_broken word described marked routine depth
