@@ -2,7 +2,7 @@
 // `runs`, and is inlined into the observed loop.
 #![tactic(auto)]
 
-ghost use Rattle.std.specs.Prelude.{◌≡◌, ◌≤◌, length, replicate};
+ghost use Rattle.std.specs.Prelude.{◌≡◌, ◌≤◌, length, replicate, Err};
 ghost use Rattle.slices.specs.Sizes.{bank_size};
 ghost use Rattle.model.specs.Run.{call, outcome, max_budget};
 ghost use Rattle.run_numbers.specs.Runs.{state_of};
@@ -10,14 +10,14 @@ ghost use Rattle.busy_runs.specs.Busy.{records, busy_outcome, page_size, busy_re
 ghost use Rattle.busy.specs.Exported.{BusyNumbered};
 
 use busy_runs::PAGE_SIZE;
-use model::{Answer, Precheck, Refusal, State};
+use model::{Precheck, Ran, Refusal, State};
 use ranking::ADDRESSES;
 use run_numbers::{RunNumbers, StateNumbers};
 
 // A busy run's answer and state, and the lines of its page.
 #[derive(Clone, Copy)]
 pub struct BusyReport {
-    pub answer: Answer,
+    pub answer: Result<Ran, Refusal>,
     pub state: State,
     pub lines: usize,
 }
@@ -92,10 +92,10 @@ fn run_recorded(
 
 // A refusal, with the state as it was and no line.
 fn refused(refusal: Refusal, s: State) -> BusyReport
-    ensures { result ≡ record { answer = Answer.Refused refusal; state = s; lines = 0 } }
+    ensures { result ≡ record { answer = Err refusal; state = s; lines = 0 } }
 {
     BusyReport {
-        answer: Answer::Refused(refusal),
+        answer: Err(refusal),
         state: s,
         lines: 0,
     }

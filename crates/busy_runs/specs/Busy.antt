@@ -1,11 +1,11 @@
 -- 02 [3]: a run that sets the counters and writes the page. What it is lent beside a run's own, its refusals, and all that it answers and leaves.
 -- Assumes nothing.
-use Rattle.std.specs.Prelude.{ℕ, ◌*◌, ◌≡◌, Bool, false, not, ◌||◌, List, ◌∷◌, ◌++◌, eqb, ltb, length, drop}
+use Rattle.std.specs.Prelude.{ℕ, ◌*◌, ◌≡◌, Bool, false, not, ◌||◌, List, ◌∷◌, ◌++◌, eqb, ltb, length, drop, Result, Ok, Err}
 use Rattle.slices.specs.Checks.{Check, FirstViolation}
 use Rattle.slices.specs.Lists.{total_of}
 use Rattle.model.specs.Run.{Call, Outcome, Cause, cause, causes, first_cause, machine_of, reported, refused_of, run_of, call_of, answer_number, checks_of}
-use Rattle.model.specs.declared.Answer.{Answer}
-use Rattle.model.specs.declared.Answer.TheVariants.{Refused, Ran}
+use Rattle.model.specs.declared.Ran.{Ran}
+use Rattle.model.specs.declared.Refusal.{Refusal}
 use Rattle.model.specs.declared.Precheck.{Precheck}
 use Rattle.model.specs.declared.Precheck.TheVariants.{Passed, Failed}
 use Rattle.model.specs.declared.Refusal.TheVariants.{BadBank}
@@ -60,9 +60,9 @@ abbrev pub executed : Call → List ℕ
 executed c = executed_of c.setting c.budget (machine_of c)
 
 -- the steps that an answer reports
-abbrev pub steps_of : Answer → ℕ
-steps_of (Refused r) = 0
-steps_of (Ran y steps cycles words) = steps
+abbrev pub steps_of : Result Ran Refusal → ℕ
+steps_of (Err r) = 0
+steps_of (Ok r) = r.steps
 
 pub record BusyPage (c : Call) (counters page₀ : List ℕ) (lines : ℕ) (page : List ℕ) : Type 0 where
   -- the addresses of the lines

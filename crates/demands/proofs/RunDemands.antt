@@ -3,12 +3,13 @@
 use mathlib.Core.Path.{◌≡◌, refl, sym, ap, ◌∙◌, subst}
 use Prim.Native.Nat.{ℕ}
 use mathlib.Core.List.{List}
+use Rattle.std.specs.Prelude.{Result, Ok, Err}
 use Rattle.slices.specs.Checks.{NoneBroken}
 use Rattle.model.specs.Run.{Call, machine_of, Ended, run_of, reported, Outcome, refusal_of, call_of, answer_number}
 use Rattle.model.specs.RunPromise.{Counted}
 use Rattle.model.specs.Time.{time_of, time_number}
-use Rattle.model.specs.declared.Answer.{Answer}
-use Rattle.model.specs.declared.Answer.TheVariants.{Refused, Ran}
+use Rattle.model.specs.declared.Ran.{Ran}
+use Rattle.model.specs.declared.Refusal.{Refusal}
 use Rattle.model.specs.declared.RunningTime.{RunningTime}
 use Rattle.model.specs.declared.RunningTime.TheVariants.{Tenths, BadClock, BadCycles}
 use Rattle.model.specs.declared.State.{State}
@@ -21,9 +22,9 @@ use Rattle.run_numbers.specs.declared.TimeNumbers.{TimeNumbers}
 use Rattle.demands.specs.First.{run_rules, only_number, FourStops, halted, spent, unsettled, full, FirstOfRun, FirstOfTime}
 use Rattle.demands.specs.Second.{stop_numbered, SecondOfRun}
 
-number_is : (a : Answer) (s : State) → (run_numbers a s).0 ≡ answer_number a
-number_is (Refused y) s = refl
-number_is (Ran y steps cycles words) s = refl
+number_is : (a : Result Ran Refusal) (s : State) → (run_numbers a s).0 ≡ answer_number a
+number_is (Err y) s = refl
+number_is (Ok y) s = refl
 
 four_stops : (y : Stop) → FourStops (stop_number y)
 four_stops Halted = halted

@@ -1,6 +1,6 @@
 -- A run (01, 'The machine'): the steps up to the first stop, the trace that it leaves, and the refusals 17, 18 and 19.
 -- Assumes nothing.
-use Rattle.std.specs.Prelude.{ℕ, zero, suc, ◌+◌, Bool, false, not, cond, ◌&&◌, ◌||◌, List, [], ◌∷◌, eqb, leb, ltb, length}
+use Rattle.std.specs.Prelude.{ℕ, zero, suc, ◌+◌, Bool, false, not, cond, ◌&&◌, ◌||◌, List, [], ◌∷◌, eqb, leb, ltb, length, Result, Ok, Err}
 use Rattle.alu.specs.Alu.{is_settled}
 use Rattle.isa.specs.Facts.{class_of, writes_roll}
 use Rattle.isa.specs.Table.{cycles_of}
@@ -10,10 +10,9 @@ use Rattle.isa.specs.declared.Instr.{Instr}
 use Rattle.slices.specs.Checks.{Check, check}
 use Rattle.slices.specs.Sizes.{bad_bank}
 use Rattle.model.specs.Step.{Setting, setting, Core, Machine, machine_at, next_instr, step_of}
-use Rattle.model.specs.declared.Answer.{Answer}
-use Rattle.model.specs.declared.Answer.TheVariants.{Refused, Ran}
 use Rattle.model.specs.declared.Precheck.{Precheck}
 use Rattle.model.specs.declared.Precheck.TheVariants.{Passed, Failed}
+use Rattle.model.specs.declared.Ran.{Ran}
 use Rattle.model.specs.declared.Refusal.{Refusal}
 use Rattle.model.specs.declared.Refusal.TheVariants.{BadBank, BadPosition, BadBudget}
 use Rattle.model.specs.declared.State.{State}
@@ -131,13 +130,13 @@ call ops args keys budget s ram stack roll =
 
 -- all that a run answers and leaves
 pub record Outcome : Type 0 where
-  pub answer : Answer
+  pub answer : Result Ran Refusal
   pub state : State
   pub ram : List ℕ
   pub stack : List ℕ
   pub roll : List ℕ
 
-abbrev pub outcome : Answer → State → List ℕ → List ℕ → List ℕ → Outcome
+abbrev pub outcome : Result Ran Refusal → State → List ℕ → List ℕ → List ℕ → Outcome
 outcome a s ram stack roll = record { answer = a; state = s; ram = ram; stack = stack; roll = roll }
 
 -- "Each run writes the roll from its beginning"; steps and cycles are those of this run
@@ -145,14 +144,17 @@ abbrev pub machine_of : Call → Machine
 machine_of c = machine_at c.state c.ram c.stack c.roll 0 0 0
 
 -- "reports stop, steps, cycles, roll words and the state reached"
+abbrev pub ran : Stop → (steps cycles words : ℕ) → Result Ran Refusal
+ran y steps cycles words = Ok (record { stop = y; steps = steps; cycles = cycles; words = words })
+
 abbrev pub reported : Ended → Outcome
 reported e =
-    outcome (Ran e.stop e.machine.core.steps e.machine.core.cycles e.machine.core.words) e.machine.core.state
+    outcome (ran e.stop e.machine.core.steps e.machine.core.cycles e.machine.core.words) e.machine.core.state
     e.machine.core.ram e.machine.stack e.machine.core.roll
 
 -- a refusal leaves everything lent as it was
 abbrev pub refused_of : Refusal → Call → Outcome
-refused_of r c = outcome (Refused r) c.state c.ram c.stack c.roll
+refused_of r c = outcome (Err r) c.state c.ram c.stack c.roll
 
 -- ---- its refusals
 
@@ -204,9 +206,9 @@ refusal_number BadBank = 17
 refusal_number BadPosition = 18
 refusal_number BadBudget = 19
 
-abbrev pub answer_number : Answer → ℕ
-answer_number (Refused r) = refusal_number r
-answer_number (Ran y steps cycles words) = 0
+abbrev pub answer_number : Result Ran Refusal → ℕ
+answer_number (Err r) = refusal_number r
+answer_number (Ok y) = 0
 
 -- the same causes as rules with 01's numbers
 abbrev pub checks_of : List Cause → List Check

@@ -1,21 +1,21 @@
 -- What a run promises of its call and its outcome: the second demand's definition, the first demand's sentence about calls, and what a
 -- caller may conclude from the definition.
 -- Assumes nothing.
-use Rattle.std.specs.Prelude.{ℕ, suc, ◌+◌, ◌≤◌, ◌≡◌, length}
+use Rattle.std.specs.Prelude.{ℕ, suc, ◌+◌, ◌≤◌, ◌≡◌, length, Result, Ok, Err}
 use Rattle.slices.specs.Checks.{NoneBroken, FirstViolation}
 use Rattle.model.specs.AfterMov.{MovClears}
-use Rattle.model.specs.Run.{run_of, trace_of, cycles_in, Call, Outcome, machine_of, call_of, answer_number, run_checks}
-use Rattle.model.specs.declared.Answer.{Answer}
-use Rattle.model.specs.declared.Answer.TheVariants.{Refused, Ran}
+use Rattle.model.specs.Run.{run_of, ran, trace_of, cycles_in, Call, Outcome, machine_of, call_of, answer_number, run_checks}
+use Rattle.model.specs.declared.Ran.{Ran}
+use Rattle.model.specs.declared.Refusal.{Refusal}
 use Rattle.model.specs.declared.Stop.{Stop}
 
 -- an answer with one of the four stops
-pub record Stops (a : Answer) : Type 0 where
+pub record Stops (a : Result Ran Refusal) : Type 0 where
   pub stop : Stop
   pub steps : ℕ
   pub cycles : ℕ
   pub words : ℕ
-  pub is : a ≡ Ran stop steps cycles words
+  pub is : a ≡ ran stop steps cycles words
 
 -- state and buffers are as they were lent
 pub record Unchanged (c : Call) (o : Outcome) : Type 0 where
@@ -25,12 +25,12 @@ pub record Unchanged (c : Call) (o : Outcome) : Type 0 where
   pub roll : o.roll ≡ c.roll
 
 -- 01, checklist: steps and cycles are "summed from the instructions executed", and there are no more than the budget
-abbrev pub Counted : Call → Answer → Type 0
-Counted c (Refused r) = Unit {0}
-Counted c (Ran stop steps cycles words) =
-    (steps ≡ length (trace_of c.setting c.budget (machine_of c)))
-    × (cycles ≡ cycles_in c.setting (trace_of c.setting c.budget (machine_of c)))
-    × (steps ≤ c.budget)
+abbrev pub Counted : Call → Result Ran Refusal → Type 0
+Counted c (Err r) = Unit {0}
+Counted c (Ok r) =
+    (r.steps ≡ length (trace_of c.setting c.budget (machine_of c)))
+    × (r.cycles ≡ cycles_in c.setting (trace_of c.setting c.budget (machine_of c)))
+    × (r.steps ≤ c.budget)
 
 -- the lengths of the lent buffers are kept
 pub record LengthsKept (c : Call) (o : Outcome) : Type 0 where

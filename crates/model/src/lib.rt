@@ -65,17 +65,21 @@ pub enum Precheck {
     Failed(Refusal),
 }
 
-// A run's answer beside the state: a refusal, or the stop, steps, cycles and roll words.
+// What a run reports beside the state: where it stopped, after how many steps and cycles, and how many
+// words the roll then has.
 #[derive(Clone, Copy)]
-pub enum Answer {
-    Refused(Refusal),
-    Ran(Stop, u32, u32, usize),
+pub struct Ran {
+    pub stop: Stop,
+    pub steps: u32,
+    pub cycles: u32,
+    pub words: usize,
 }
 
-// What a run hands back: its answer, and the state reached or, for a refusal, the state as it was.
+// What a run hands back: its answer, and the state reached. The state stands beside the answer since a
+// refusal hands it back too, as it was.
 #[derive(Clone, Copy)]
 pub struct Report {
-    pub answer: Answer,
+    pub answer: Result<Ran, Refusal>,
     pub state: State,
 }
 

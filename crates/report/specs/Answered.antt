@@ -1,9 +1,9 @@
 -- What the desk's answer promises of an input and the lent buffer: the text, all of it, and that a run of an admitted listing ends in one of the
 -- two stops that 01 has the desk print.
 -- Assumes nothing.
-use Rattle.std.specs.Prelude.{ℕ, ◌≤◌, ◌≡◌, List, ◌++◌, length, drop}
-use Rattle.model.specs.declared.Answer.{Answer}
-use Rattle.model.specs.declared.Answer.TheVariants.{Refused, Ran}
+use Rattle.std.specs.Prelude.{ℕ, ◌≤◌, ◌≡◌, List, ◌++◌, length, drop, Result, Ok, Err}
+use Rattle.model.specs.declared.Ran.{Ran}
+use Rattle.model.specs.declared.Refusal.{Refusal}
 use Rattle.model.specs.declared.Stop.{Stop}
 use Rattle.model.specs.declared.Stop.TheVariants.{Halted, Spent, Unsettled, Full}
 use Rattle.rules.specs.Grounds.{admit_of}
@@ -20,9 +20,9 @@ DeskStop Unsettled = ⊥
 DeskStop Full = ⊥
 
 -- nor is the run refused
-abbrev pub HaltedOrSpent : Answer → Type 0
-HaltedOrSpent (Refused x) = ⊥
-HaltedOrSpent (Ran stop steps cycles words) = DeskStop stop
+abbrev pub HaltedOrSpent : Result Ran Refusal → Type 0
+HaltedOrSpent (Err x) = ⊥
+HaltedOrSpent (Ok r) = DeskStop r.stop
 
 -- an admitted listing's run is halted or spent
 abbrev pub RunEnds : Listing → Type 0

@@ -1,10 +1,10 @@
 -- What the desk prints for an input (01, 'Listing A and the edges').
 -- Assumes nothing.
-use Rattle.std.specs.Prelude.{ℕ, ◌+◌, ◌-◌, ◌/◌, ◌%◌, cond, List, [], ◌++◌, eqb, replicate}
+use Rattle.std.specs.Prelude.{ℕ, ◌+◌, ◌-◌, ◌/◌, ◌%◌, cond, List, [], ◌++◌, eqb, replicate, Result, Ok, Err}
 use Rattle.model.specs.Run.{Outcome, Call, call, call_of}
 use Rattle.model.specs.State.{start_state}
-use Rattle.model.specs.declared.Answer.{Answer}
-use Rattle.model.specs.declared.Answer.TheVariants.{Refused, Ran}
+use Rattle.model.specs.declared.Ran.{Ran}
+use Rattle.model.specs.declared.Refusal.{Refusal}
 use Rattle.model.specs.declared.State.{State}
 use Rattle.rules.specs.Grounds.{sheet_size, admit_of}
 use Rattle.rules.specs.Sheet.{Listing, listing, need}
@@ -44,9 +44,9 @@ unfoldable pub ran_of : (ops args : List ℕ) → Outcome
 ran_of ops args = call_of (desk_call ops args start_state)
 
 -- "halted steps 8 cycles 31 out 6 sp 255". A refusal has no line: `ends` of Answered.antt rules it out
-abbrev pub ran_line : Answer → State → List ℕ
-ran_line (Refused x) s = []
-ran_line (Ran stop steps cycles words) s = run_line stop steps cycles s.out s.sp
+abbrev pub ran_line : Result Ran Refusal → State → List ℕ
+ran_line (Err x) s = []
+ran_line (Ok r) s = run_line r.stop r.steps r.cycles s.out s.sp
 
 abbrev pub ran_text : Outcome → List ℕ
 ran_text o = ran_line o.answer o.state

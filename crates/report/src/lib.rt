@@ -9,7 +9,7 @@ ghost use Rattle.lines.specs.Lines.{run_room};
 ghost use Rattle.pages.specs.Page.{page, Written};
 
 use lines::{admitted_line, refused_line, run_line};
-use model::{Answer, State};
+use model::{Ran, Refusal, State};
 use rules::SHEET_SIZE;
 use slices::{BANK_SIZE, byte_at, part};
 
@@ -36,14 +36,12 @@ const ROLL_SIZE: usize = 1000;
 const BUDGET: u32 = 1000;
 
 // The line of a run's answer is written from a place on, none of a refusal; the place after it.
-fn ran_line(out: &mut [u8], at: usize, answer: Answer, reached: State) -> usize
+fn ran_line(out: &mut [u8], at: usize, answer: Result<Ran, Refusal>, reached: State) -> usize
     ensures { Written run_room (ran_line answer reached) (page out.old at) (page out.new result) }
 {
     match answer {
-        Answer::Refused(_) => at,
-        Answer::Ran(stop, steps, cycles, _) => {
-            run_line(out, at, stop, steps, cycles, reached.out, reached.sp)
-        }
+        Err(_) => at,
+        Ok(r) => run_line(out, at, r.stop, r.steps, r.cycles, reached.out, reached.sp),
     }
 }
 

@@ -1,14 +1,14 @@
 -- THE THIRD DEMAND (01, 'Lists of runs'): what holds of every list of runs of an admitted listing, whatever the data, the old stack contents,
 -- the keys, the registers, the flags Z, C and S, the budgets and the rolls.
 -- Assumes nothing.
-use Rattle.std.specs.Prelude.{ℕ, ◌+◌, ◌≤◌, ◌<◌, ◌≡◌, List, [], ◌∷◌, Bool, true, length, get_or}
+use Rattle.std.specs.Prelude.{ℕ, ◌+◌, ◌≤◌, ◌<◌, ◌≡◌, List, [], ◌∷◌, Bool, true, length, get_or, Result, Ok, Err}
 use Rattle.isa.specs.declared.Class.{Class}
 use Rattle.isa.specs.declared.Class.TheVariants.{Next, Jump, Branch, JumpReg, Call, Return, Push, Pop, Swap, Halt}
 use Rattle.model.specs.Run.{Outcome, run_of, trace_of}
 use Rattle.model.specs.State.{start_with}
 use Rattle.model.specs.Step.{Setting, Machine, top_of, step_of}
-use Rattle.model.specs.declared.Answer.{Answer}
-use Rattle.model.specs.declared.Answer.TheVariants.{Refused, Ran}
+use Rattle.model.specs.declared.Ran.{Ran}
+use Rattle.model.specs.declared.Refusal.{Refusal}
 use Rattle.model.specs.declared.Stop.TheVariants.{Unsettled}
 use Rattle.rules.specs.Grounds.{admit_of}
 use Rattle.rules.specs.RunLists.{Snapshot, ListedRun, Event, starts, steps, outcome_of, left_by, run_events, outcomes, events}
@@ -75,9 +75,9 @@ Tallied L row (steps x m ∷ es) = StepHolds L row x m × Tallied L (tally L m r
 -- ---- a run
 
 -- "No run's stop is `unsettled`"
-abbrev pub NotUnsettled : Answer → Type 0
-NotUnsettled (Refused x) = Unit {0}
-NotUnsettled (Ran x n cycles words) = x ≡ Unsettled → ⊥
+abbrev pub NotUnsettled : Result Ran Refusal → Type 0
+NotUnsettled (Err x) = Unit {0}
+NotUnsettled (Ok r) = r.stop ≡ Unsettled → ⊥
 
 abbrev pub NoneUnsettled : List Outcome → Type 0
 NoneUnsettled [] = Unit {0}
@@ -120,9 +120,9 @@ pub record Agree (l : List ℕ) (o o' : Outcome) : Type 0 where
 
 -- "at each run" of a list from w and from w', where the addresses l were stored to before. Of a refused call only the answer is compared: what
 -- it was lent is as it was
-abbrev pub AgreeBy : Answer → List ℕ → Outcome → Outcome → Type 0
-AgreeBy (Refused x) l o o' = o.answer ≡ o'.answer
-AgreeBy (Ran x n cycles words) l o o' = Agree l o o'
+abbrev pub AgreeBy : Result Ran Refusal → List ℕ → Outcome → Outcome → Type 0
+AgreeBy (Err x) l o o' = o.answer ≡ o'.answer
+AgreeBy (Ok r) l o o' = Agree l o o'
 
 abbrev pub AllAgree : Listing → List ℕ → List ListedRun → Snapshot → Snapshot → Type 0
 AllAgree L l [] w w' = Unit {0}

@@ -1,11 +1,11 @@
 -- 01, 'Lists of runs': runs one after another, what each answers and leaves, and the events that a tally is fed.
 -- Assumes nothing.
-use Rattle.std.specs.Prelude.{ℕ, ◌≡◌, List, [], ◌∷◌, ◌++◌, Bool, true}
+use Rattle.std.specs.Prelude.{ℕ, ◌≡◌, List, [], ◌∷◌, ◌++◌, Bool, true, Result, Ok, Err}
 use Rattle.model.specs.Run.{Outcome, Call, call_of, trace_of}
 use Rattle.model.specs.State.{start_with}
 use Rattle.model.specs.Step.{Program, Setting, setting, Machine, machine_at}
-use Rattle.model.specs.declared.Answer.{Answer}
-use Rattle.model.specs.declared.Answer.TheVariants.{Refused, Ran}
+use Rattle.model.specs.declared.Ran.{Ran}
+use Rattle.model.specs.declared.Refusal.{Refusal}
 use Rattle.model.specs.declared.State.{State}
 use Rattle.slices.specs.Sizes.{bad_bank}
 
@@ -60,9 +60,9 @@ unfoldable pub outcome_of : Program → ListedRun → Snapshot → Outcome
 outcome_of p r w = call_of (call_in p r w)
 
 -- "A refused run leaves both as they were and is no start"
-abbrev pub snapshot_by : Answer → Outcome → Snapshot → Snapshot
-snapshot_by (Refused x) o w = w
-snapshot_by (Ran x steps cycles words) o w = record { state = o.state; ram = o.ram; stack = o.stack }
+abbrev pub snapshot_by : Result Ran Refusal → Outcome → Snapshot → Snapshot
+snapshot_by (Err x) o w = w
+snapshot_by (Ok y) o w = record { state = o.state; ram = o.ram; stack = o.stack }
 
 abbrev pub left_by : Outcome → Snapshot → Snapshot
 left_by o w = snapshot_by o.answer o w
@@ -88,9 +88,9 @@ abbrev pub run_machine : ListedRun → Snapshot → Machine
 run_machine r w = machine_at (start_from r.start w.state) w.ram w.stack r.roll 0 0 0
 
 -- "every step of the list in order, as the second demand defines steps": those of the run's trace
-abbrev pub events_by : Answer → Program → ListedRun → Snapshot → List Event
-events_by (Refused x) p r w = []
-events_by (Ran x n cycles words) p r w =
+abbrev pub events_by : Result Ran Refusal → Program → ListedRun → Snapshot → List Event
+events_by (Err x) p r w = []
+events_by (Ok y) p r w =
     start_events r.start ++ steps_in (run_setting p r) (trace_of (run_setting p r) r.budget (run_machine r w))
 
 abbrev pub run_events : Program → ListedRun → Snapshot → List Event

@@ -1,13 +1,13 @@
 -- A state, a run's report and a running time as numbers.
 -- Assumes nothing.
-use Rattle.std.specs.Prelude.{ℕ, ◌≡◌, true, false, List, [], ◌∷◌, get_or}
+use Rattle.std.specs.Prelude.{ℕ, ◌≡◌, true, false, List, [], ◌∷◌, get_or, Result, Ok, Err}
 use Rattle.alu.specs.declared.Overflow.{Overflow}
 use Rattle.alu.specs.declared.Overflow.TheVariants as overflow
 use Rattle.model.specs.Run.{Call, call_of, refusal_number}
 use Rattle.model.specs.RunPromise.{RunPromise}
 use Rattle.model.specs.Time.{time_of, time_number, TimePromise}
-use Rattle.model.specs.declared.Answer.{Answer}
-use Rattle.model.specs.declared.Answer.TheVariants.{Refused, Ran}
+use Rattle.model.specs.declared.Ran.{Ran}
+use Rattle.model.specs.declared.Refusal.{Refusal}
 use Rattle.model.specs.declared.RunningTime.{RunningTime}
 use Rattle.model.specs.declared.RunningTime.TheVariants.{Tenths, BadClock, BadCycles}
 use Rattle.model.specs.declared.State.{State}
@@ -50,9 +50,9 @@ stop_number Unsettled = 2
 stop_number Full = 3
 
 -- 01's number, stop, steps, cycles, roll words and state; a refusal has only its number, and the state as it was
-abbrev pub run_numbers : Answer → State → RunNumbers
-run_numbers (Refused x) s = (refusal_number x, 0, 0, 0, 0, state_numbers s)
-run_numbers (Ran x steps cycles words) s = (0, stop_number x, steps, cycles, words, state_numbers s)
+abbrev pub run_numbers : Result Ran Refusal → State → RunNumbers
+run_numbers (Err x) s = (refusal_number x, 0, 0, 0, 0, state_numbers s)
+run_numbers (Ok r) s = (0, stop_number r.stop, r.steps, r.cycles, r.words, state_numbers s)
 
 -- the whole outcome of a run's call, as numbers and lent memory, and what a run promises of it
 pub record RunNumbered (c : Call) (r : RunNumbers) (ram stack roll : List ℕ) : Type 0 where

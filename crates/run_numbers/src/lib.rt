@@ -7,7 +7,7 @@ ghost use Rattle.model.specs.Run.{refusal_number};
 ghost use Rattle.run_numbers.specs.Runs.{overflow_of, state_of, state_numbers, stop_number, run_numbers, time_numbers};
 
 use alu::{Flags, Overflow};
-use model::{Answer, Refusal, RunningTime, State, Stop};
+use model::{Ran, Refusal, RunningTime, State, Stop};
 use numbers::overflow_number;
 
 // A state: R0 to R3, PC, SP, output register, Z, C, S, V, halted, position.
@@ -114,15 +114,13 @@ fn refusal_number(x: Refusal) -> u8
 }
 
 // The numbers of a run's report.
-pub fn run_numbers(answer: Answer, s: State) -> RunNumbers
+pub fn run_numbers(answer: Result<Ran, Refusal>, s: State) -> RunNumbers
     ensures { result ≡ run_numbers answer s }
 {
     let state = state_numbers(s);
     match answer {
-        Answer::Refused(x) => RunNumbers(refusal_number(x), 0, 0, 0, 0, state),
-        Answer::Ran(x, steps, cycles, words) => {
-            RunNumbers(0, stop_number(x), steps, cycles, words, state)
-        }
+        Err(x) => RunNumbers(refusal_number(x), 0, 0, 0, 0, state),
+        Ok(r) => RunNumbers(0, stop_number(r.stop), r.steps, r.cycles, r.words, state),
     }
 }
 

@@ -11,7 +11,7 @@ ghost use Rattle.seating.specs.Reports.{TurnedAs};
 ghost use Rattle.seating.specs.internal.SeatRuns.{SeatRan, report_by};
 
 use machine::run_steps;
-use model::{Answer, Report};
+use model::Report;
 use scheduling::lengths::begin_of;
 use scheduling::places::{seat_after, state_at, with_seat};
 use scheduling::refusals::refusal;
@@ -84,10 +84,10 @@ fn seat_report(i: usize, next: usize, report: Report, seats: SeatNumbers) -> Tur
     let answer = report.answer;
     let reached = report.state;
     match answer {
-        Answer::Refused(_) => idle(TurnAnswer::NoneCan, seats),
-        Answer::Ran(stop, steps, cycles, words) => TurnReport {
-            answer: TurnAnswer::Ran(i, next, stop, steps, cycles),
-            seats: with_seat(seats, i, reached, words),
+        Err(_) => idle(TurnAnswer::NoneCan, seats),
+        Ok(r) => TurnReport {
+            answer: TurnAnswer::Ran(i, next, r.stop, r.steps, r.cycles),
+            seats: with_seat(seats, i, reached, r.words),
         },
     }
 }

@@ -14,8 +14,7 @@ use Rattle.slices.specs.Checks.{NoneBroken}
 use Rattle.slices.specs.Sizes.{bank_size, bad_bank}
 use Rattle.slices.proofs.Bools.{by_test, neither}
 use Rattle.slices.proofs.Parts.{length_part}
-use Rattle.model.specs.Run.{Ended, Call, Outcome, outcome, reported, run_of, trace_of, max_budget, run_checks}
-use Rattle.model.specs.declared.Answer.TheVariants as run
+use Rattle.model.specs.Run.{Ended, Call, Outcome, outcome, ran, reported, run_of, trace_of, max_budget, run_checks}
 use Rattle.model.specs.State.{start_state}
 use Rattle.model.specs.Step.{Program, Setting, Machine}
 use Rattle.model.proofs.Promises.{checks_pass, passed_call}
@@ -100,7 +99,7 @@ same_steps s slice h =
 -- what a seat that came to the machine m tells, of a run that ended so
 abbrev outcome_at : Seat → Ended → Outcome
 outcome_at s e =
-    outcome (run.Ran e.stop e.machine.core.steps e.machine.core.cycles (e.machine.core.words - s.roll_position))
+    outcome (ran e.stop e.machine.core.steps e.machine.core.cycles (e.machine.core.words - s.roll_position))
     e.machine.core.state e.machine.core.ram e.machine.stack (drop s.roll_position e.machine.core.roll)
 
 run_told : (c : TurnCall) (s : Seat) → Runnable c s
@@ -127,7 +126,7 @@ turn_told i c w e =
     (λ q.
     let d = alone_of (seat_of w j) c.slice in
     rw q
-    (ap (λ (t : Seat). outcome (run.Ran d.stop d.machine.core.steps d.machine.core.cycles (t.roll_position - (seat_of w i).roll_position)) t.state t.ram t.stack (drop (seat_of w i).roll_position t.roll) ∷ [])
+    (ap (λ (t : Seat). outcome (ran d.stop d.machine.core.steps d.machine.core.cycles (t.roll_position - (seat_of w i).roll_position)) t.state t.ram t.stack (drop (seat_of w i).roll_position t.roll) ∷ [])
     (ap (λ (k : ℕ). seat_of (ran_of c w j).room k) (sym (eqb-true j i q)) ∙ ran_same c w j r e)
     ∙ ap (λ (k : ℕ). outcome_at (seat_of w i) (alone_of (seat_of w k) c.slice) ∷ []) (eqb-true j i q)))
     (λ q. rw q))

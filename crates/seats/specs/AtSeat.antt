@@ -3,9 +3,8 @@
 -- Assumes nothing.
 use Rattle.std.specs.Prelude.{ℕ, ◌-◌, ◌≤◌, ◌≡◌, cond, List, [], ◌∷◌, ◌++◌, eqb, length, drop}
 use Rattle.slices.specs.Lists.{mapped}
-use Rattle.model.specs.Run.{Outcome, outcome, trace_of}
+use Rattle.model.specs.Run.{Outcome, outcome, ran, trace_of}
 use Rattle.model.specs.Step.{Machine, machine_at}
-use Rattle.model.specs.declared.Answer.TheVariants as run
 use Rattle.rules.specs.Demand.{Bytes, Starts, Holds}
 use Rattle.rules.specs.Grounds.{admit_of}
 use Rattle.rules.specs.RunLists.{Snapshot, resume, own, ListedRun, run_machine, outcomes}
@@ -48,7 +47,7 @@ told_by i (Refused k) s t = []
 told_by i NoneCan s t = []
 told_by i (Ran j next y steps cycles) s t =
     cond (eqb j i)
-    (outcome (run.Ran y steps cycles (t.roll_position - s.roll_position)) t.state t.ram t.stack (drop s.roll_position t.roll) ∷ []) []
+    (outcome (ran y steps cycles (t.roll_position - s.roll_position)) t.state t.ram t.stack (drop s.roll_position t.roll) ∷ []) []
 
 unfoldable pub told_at : ℕ → List TurnCall → Room → List Outcome
 told_at i [] w = []

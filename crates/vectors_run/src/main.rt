@@ -4,7 +4,7 @@
 
 use alu::{Flags, Overflow};
 use calls::start_state;
-use model::{Answer, State};
+use model::{Ran, Refusal, State};
 use slices::BANK_SIZE;
 use std::io;
 use std::io::Print;
@@ -47,12 +47,12 @@ fn byte(out: &impl Print, name: &[u8], n: u8) -> io::Result<()> {
 }
 
 // Writes the desk's line of a run, or that it was refused.
-fn run_line(out: &impl Print, answer: Answer, s: State) -> io::Result<()> {
+fn run_line(out: &impl Print, answer: Result<Ran, Refusal>, s: State) -> io::Result<()> {
     match answer {
-        Answer::Refused(_) => { out.write_all(b" refused\n") }
-        Answer::Ran(stop, steps, cycles, _) => {
+        Err(_) => { out.write_all(b" refused\n") }
+        Ok(r) => {
             let mut line = [0u8; LINE_ROOM];
-            let n = lines::run_line(&mut line, 0, stop, steps, cycles, s.out, s.sp);
+            let n = lines::run_line(&mut line, 0, r.stop, r.steps, r.cycles, s.out, s.sp);
             out.write_all(b" ")?;
             out.write_all(slices::part(&line, 0, n))
         }

@@ -2,8 +2,10 @@
 use mathlib.Core.Path.{◌≡◌, sym, ap}
 use mathlib.Core.List.{List}
 use Prim.Native.Nat.{ℕ, ◌-◌}
+use Rattle.std.specs.Prelude.{Result}
 use Rattle.model.specs.Run.{Outcome, outcome, reported}
-use Rattle.model.specs.declared.Answer.{Answer}
+use Rattle.model.specs.declared.Ran.{Ran}
+use Rattle.model.specs.declared.Refusal.{Refusal}
 use Rattle.model.specs.declared.State.{State}
 use Rattle.model.proofs.Runs.{halted_stays}
 use Rattle.stepping.proofs.Attempts.{attempted}
@@ -11,7 +13,7 @@ use Rattle.machine.proofs.RunLoop.{loop_goes, loop_stops, loop_halts, loop_ends}
 use Rattle.machine.proofs.run_steps.Goals as goal
 
 -- the state that is reported
-reached_by : {a : Answer} {s t : State} {ram stack roll : List ℕ} {o : Outcome} → s ≡ t → outcome a t ram stack roll ≡ o → outcome a s ram stack roll ≡ o
+reached_by : {a : Result Ran Refusal} {s t : State} {ram stack roll : List ℕ} {o : Outcome} → s ≡ t → outcome a t ram stack roll ≡ o → outcome a s ram stack roll ≡ o
 reached_by e q = rw e q
 
 pub returns-then-start : goal.returns-then-start

@@ -4,6 +4,6 @@ use native.Mathlib.Omega.{arith}
 use Rattle.pages.specs.Page.{write_of}
 use Rattle.report.proofs.ran_line.Goals as goal
 
-pub returns-in-Refused : goal.returns-in-Refused
+pub returns-in-Err : goal.returns-in-Err
 unfolding write_of
-returns-in-Refused c = rw c.in-Refused.is (record { left = refl; short = omega arith })
+returns-in-Err c = rw c.in-Err.is (record { left = refl; short = omega arith })
