@@ -1,13 +1,12 @@
 -- What each export for a single instruction promises, on numbers and lent memory.
 -- Assumes nothing.
-use Rattle.std.specs.Prelude.{ℕ, ◌≡◌, Bool, List}
+use Rattle.std.specs.Prelude.{ℕ, ◌≡◌, Bool, List, Ok}
 use Rattle.slices.specs.Checks.{NoneBroken, FirstViolation}
 use Rattle.alu.specs.Alu.{Computes}
 use Rattle.alu.specs.declared.Computed.{Computed}
 use Rattle.isa.specs.Decode.{decode_of}
 use Rattle.isa.specs.Encode.{encode_checks, Valid, put_checks, encode_of, number_of, Accepted, put_of, opcodes_after, arguments_after, PutChecked}
 use Rattle.isa.specs.RoundTrip.{Decodes}
-use Rattle.isa.specs.declared.Encoded.TheVariants.{Bytes}
 use Rattle.isa.specs.declared.Instr.{Instr}
 use Rattle.numbers.specs.Numbers.{fields_of, instr_of, encoding_of, computed_numbers}
 use Rattle.numbers.specs.declared.ComputedNumbers.{ComputedNumbers}
@@ -24,7 +23,7 @@ pub record Decoded (op arg : ℕ) (r : Fields) : Type 0 where
 pub record EncodedAs (x : Fields) (r : Encoding) : Type 0 where
   pub rule : r ≡ encoding_of (encode_of (instr_of x))
   -- a valid form is accepted
-  pub accepted : Valid (instr_of x) → encode_of (instr_of x) ≡ Bytes r.1 r.2
+  pub accepted : Valid (instr_of x) → encode_of (instr_of x) ≡ Ok (r.1, r.2)
   -- "every other call is refused by the first rule it breaks"
   pub checked : FirstViolation (encode_checks (instr_of x)) r.0
   -- "instruction -> two bytes -> instruction is the identity"

@@ -3,9 +3,8 @@
 use mathlib.Core.Path.{◌≡◌, refl, sym, ap, ◌∙◌}
 use Prim.Native.Nat.{ℕ}
 use mathlib.Core.List.{List}
-use Rattle.isa.specs.Encode.{encode_of, put_of}
-use Rattle.isa.specs.declared.Encoded.{Encoded}
-use Rattle.isa.specs.declared.Encoded.TheVariants.{Bytes, BadBank, BadRegister, BadFunction}
+use Rattle.std.specs.Prelude.{Ok, Err}
+use Rattle.isa.specs.Encode.{Encoded, encode_of, put_of}
 use Rattle.numbers.specs.Numbers.{fields_of, instr_of, encoding_of}
 use Rattle.boundary.specs.Exports.{Decoded, EncodedAs, PutNumber}
 use Rattle.numbers.specs.declared.Encoding.{Encoding}
@@ -26,10 +25,8 @@ bytes_return op arg x r d e =
 -- ---- an instruction encoded, and put
 
 encoding_alone : (a : Encoded) → ((encoding_of a).0 ≡ 0 → ⊥) → encoding_of a ≡ ((encoding_of a).0, 0, 0)
-encoding_alone (Bytes op arg) h = absurd (h refl)
-encoding_alone BadBank h = refl
-encoding_alone BadRegister h = refl
-encoding_alone BadFunction h = refl
+encoding_alone (Ok bytes) h = absurd (h refl)
+encoding_alone (Err refusal) h = refl
 
 pub encode_first : (x : Fields) (r : Encoding) → EncodedAs x r → FirstOfEncode x r
 encode_first x r e =

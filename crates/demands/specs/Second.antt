@@ -2,14 +2,13 @@
 -- admitted or not; a run makes every step up to the first stop, and no other; instruction -> two bytes -> instruction is the identity; two
 -- bytes read and written again differ only in free bits.
 -- Assumes nothing.
-use Rattle.std.specs.Prelude.{ℕ, ◌≤◌, ◌≡◌, Bool, false, not, ◌&&◌, List, leb, length, get_or}
+use Rattle.std.specs.Prelude.{ℕ, ◌≤◌, ◌≡◌, Bool, false, not, ◌&&◌, List, leb, length, get_or, Ok}
 use Rattle.slices.specs.Checks.{NoneBroken}
 use Rattle.alu.specs.Alu.{alu_of, is_settled}
 use Rattle.isa.specs.Decode.{decode_of}
 use Rattle.isa.specs.Facts.{writes_roll}
 use Rattle.isa.specs.Free.{cleared_of}
 use Rattle.isa.specs.Table.{row_of, cycles_of}
-use Rattle.isa.specs.declared.Encoded.TheVariants.{Bytes}
 use Rattle.isa.specs.declared.Instr.{Instr}
 use Rattle.model.specs.Plan.{Plan, plan_of}
 use Rattle.model.specs.Run.{tests_overflow, first_stop, Call, machine_of, Ended, run_of, trace_of, cycles_in}
@@ -89,7 +88,7 @@ InstructionReturns x y = NoneBroken (encode_rules (instr_of x)) → (instr_of y 
 
 -- two bytes that were decoded, and then encoded: no refusal, and just the free bits of their row cleared
 abbrev pub BytesReturn : (op arg : ℕ) → Encoding → Type 0
-BytesReturn op arg r = (r.0 ≡ 0) × (Bytes r.1 r.2 ≡ cleared_of (row_of (decode_of op arg)) op arg)
+BytesReturn op arg r = (r.0 ≡ 0) × (Ok (r.1, r.2) ≡ cleared_of (row_of (decode_of op arg)) op arg)
 
 -- ---- a function of the ALU, and an instruction's facts
 

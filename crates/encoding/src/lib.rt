@@ -5,7 +5,7 @@ ghost use Rattle.std.specs.Prelude.{◌≡◌, false};
 ghost use Rattle.isa.specs.Encode.{bad_in_opcode, bad_in_argument, bad_function, opcode_byte, argument_byte, join_of, number_of, Put};
 ghost use Rattle.isa.specs.RoundTrip.{Encodes};
 
-use isa::{Argument, Encoded, Instr, Opcode, Row};
+use isa::{Argument, EncodeError, Instr, Opcode, Row};
 
 // Whether a register number in the opcode is over 3.
 fn is_bad_opcode(o: Opcode) -> bool
@@ -70,56 +70,62 @@ fn argument_byte(g: Argument) -> u8
 }
 
 // The two bytes of a row, or 22 before 23.
-fn join(row: Row) -> Encoded
+fn join(row: Row) -> Result<(u8, u8), EncodeError>
     ensures { result ≡ join_of row }
 {
     let o = row.0;
     let g = row.1;
     if is_bad_opcode(o) | is_bad_argument(g) {
-        return Encoded::BadRegister;
+        return Err(EncodeError::BadRegister);
     }
     if is_bad_function(g) {
-        return Encoded::BadFunction;
+        return Err(EncodeError::BadFunction);
     }
-    Encoded::Bytes(opcode_byte(o), argument_byte(g))
+    Ok((opcode_byte(o), argument_byte(g)))
 }
 
 // The two bytes of an instruction, or its refusal.
-pub fn encode(instr: Instr) -> Encoded
+pub fn encode(instr: Instr) -> Result<(u8, u8), EncodeError>
     ensures { Encodes instr result }
 {
     join(rows::layout(instr))
 }
 
 // 01's number of an answer, 0 where nothing is refused.
-pub fn number(e: Encoded) -> u8
-    ensures { result ≡ number_of e }
+pub fn number(answer: Result<(u8, u8), EncodeError>) -> u8
+    ensures { result ≡ number_of answer }
 {
-    match e {
-        Encoded::Bytes(_, _) => 0,
-        Encoded::BadBank => 1,
-        Encoded::BadRegister => 22,
-        Encoded::BadFunction => 23,
+    match answer {
+        Ok(_) => 0,
+        Err(EncodeError::BadBank) => 1,
+        Err(EncodeError::BadRegister) => 22,
+        Err(EncodeError::BadFunction) => 23,
     }
 }
 
 // An instruction put into the two banks at an address: its bytes, or the refusal that leaves both
 // banks as they were.
-pub fn put(instr: Instr, opcodes: &mut [u8], arguments: &mut [u8], at: u8) -> Encoded
+pub fn put(
+    instr: Instr,
+    opcodes: &mut [u8],
+    arguments: &mut [u8],
+    at: u8,
+) -> Result<(u8, u8), EncodeError>
     ensures { Put instr opcodes.old arguments.old at result opcodes.new arguments.new }
 {
     if opcodes.len() != slices::BANK_SIZE {
-        return Encoded::BadBank;
+        return Err(EncodeError::BadBank);
     }
     if arguments.len() != slices::BANK_SIZE {
-        return Encoded::BadBank;
+        return Err(EncodeError::BadBank);
     }
     let e = encode(instr);
-    let Encoded::Bytes(opcode, argument) = e else {
+    // The papers ask for `let .. else` here, where `?` would do.
+    let Ok((opcode, argument)) = e else {
         return e;
     };
     let place = at as usize;
     opcodes[place] = opcode;
     arguments[place] = argument;
-    Encoded::Bytes(opcode, argument)
+    Ok((opcode, argument))
 }

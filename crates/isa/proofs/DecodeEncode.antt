@@ -8,6 +8,7 @@ use native.Mathlib.Omega.{arith}
 use lib.Dec.{eqb}
 use lib.Bits.{bit_and, and_mask, and_high, and_block, and_zero_r}
 use borrow.Author.Tests.{le-ltb, eqb-true}
+use Rattle.std.specs.Prelude.{Ok}
 use Rattle.slices.proofs.Bools.{both}
 use Rattle.isa.specs.Decode.{forms, matches, form_of, decode_of}
 use Rattle.isa.specs.Encode.{bad_in_opcode, bad_in_argument, bad_function, Valid, opcode_byte, argument_byte, encode_of}
@@ -16,7 +17,6 @@ use Rattle.isa.specs.RoundTrip.{WritesBack, Assigned}
 use Rattle.isa.specs.Table.{row_of, opcode_in, argument_in}
 use Rattle.isa.specs.declared.Argument.{Argument}
 use Rattle.isa.specs.declared.Argument.TheVariants.{FFFFXXBB, IIIIIIII, XXXXXXBB, XXXXXXXX}
-use Rattle.isa.specs.declared.Encoded.TheVariants.{Bytes}
 use Rattle.isa.specs.declared.Opcode.{Opcode}
 use Rattle.isa.specs.declared.Opcode.TheVariants.{DDAA, DDXX, OOAA, OOXX}
 use Rattle.isa.specs.declared.Row.{Row}
@@ -126,4 +126,4 @@ module _ (op arg : ℕ) (ho : op < 256) (ha : arg < 256) where
   unfolding encode_of
   decode_encode =
       let v = decoded_valid in
-      joins found v.0 v.1.0 ∙ ap₂ Bytes opcode_cleared argument_cleared
+      joins found v.0 v.1.0 ∙ ap₂ (λ (x y : ℕ). Ok (x, y)) opcode_cleared argument_cleared

@@ -7,14 +7,16 @@ use Prim.Native.Nat.{ℕ, ◌/◌, ◌%◌}
 use native.Mathlib.Omega.{arith}
 use lib.Dec.{ltb}
 use borrow.Author.Tests.{ltb-false}
+use Rattle.std.specs.Prelude.{Ok, Err}
+use Rattle.std.proofs.lemmas.Result.{IfOk-at_ok}
 use Rattle.slices.proofs.Bools.{neither}
 use Rattle.isa.specs.Decode.{form_of, decode_of}
-use Rattle.isa.specs.Encode.{bad_in_opcode, bad_in_argument, bad_register, bad_function, opcode_byte, argument_byte, join_of, encode_of}
+use Rattle.isa.specs.Encode.{bad_in_opcode, bad_in_argument, bad_register, bad_function, opcode_byte, argument_byte, Encoded, join_of, encode_of}
 use Rattle.isa.specs.RoundTrip.{ReadsBack}
 use Rattle.isa.specs.Table.{row_of, opcode_in, argument_in}
 use Rattle.isa.specs.declared.Argument.{Argument}
 use Rattle.isa.specs.declared.Argument.TheVariants.{FFFFXXBB, IIIIIIII, XXXXXXBB, XXXXXXXX}
-use Rattle.isa.specs.declared.Encoded.TheVariants.{Bytes, BadRegister, BadFunction}
+use Rattle.isa.specs.declared.EncodeError.TheVariants.{BadRegister, BadFunction}
 use Rattle.isa.specs.declared.Instr.{Instr}
 use Rattle.isa.specs.declared.Instr.TheVariants.{Alu, AddImm, AluNone, CmpImm, MaskImm, MaskIn, MovImm, MovIn, Ack, StoreAddr, StoreReg, Push, LoadAddr, LoadReg, Pop, Swap, Jmp, JmpReg, Call, Ret, Jz, Jnz, Jc, Jnc, Jv, Jnv, Jlz, Jp, Jgz, Jleu, Jlt, Jle, LcdCmd, LcdImm, LcdReg, LcdMem, OutReg, OutMem, Hlt, Nop}
 use Rattle.isa.specs.declared.Opcode.{Opcode}
@@ -137,11 +139,13 @@ argument_cut (XXXXXXBB b) h k =
 argument_cut XXXXXXXX h k = record { function = refl; second = refl }
 
 -- bytes come from a row with good letters
-accepted : (a b : Bool) (x y op arg : ℕ) → cond a BadRegister (cond b BadFunction (Bytes x y)) ≡ Bytes op arg
+accepted : (a b : Bool) (x y op arg : ℕ) → cond {A = Encoded} a (Err BadRegister) (cond b (Err BadFunction) (Ok (x, y))) ≡ Ok (op, arg)
     → (a ≡ false) × (b ≡ false) × (x ≡ op) × (y ≡ arg)
 accepted true b x y op arg h = (cc, cc, cc, cc)
 accepted false true x y op arg h = (cc, cc, cc, cc)
-accepted false false x y op arg h = (refl, refl, cc, cc)
+accepted false false x y op arg h =
+    let same = IfOk-at_ok (λ (bytes : ℕ × ℕ). (x ≡ bytes.0) × (y ≡ bytes.1)) h (refl, refl) in
+    (refl, refl, same.0, same.1)
 
 pub encode_decode : (i : Instr) → ReadsBack i (encode_of i)
 unfolding encode_of join_of decode_of

@@ -3,9 +3,8 @@
 use mathlib.Core.Path.{◌≡◌}
 use Prim.Native.Nat.{ℕ, ◌<◌}
 use Rattle.isa.specs.Decode.{decode_of}
-use Rattle.isa.specs.Encode.{encode_of}
+use Rattle.isa.specs.Encode.{Encoded, encode_of}
 use Rattle.isa.specs.RoundTrip.{Decodes, Encodes}
-use Rattle.isa.specs.declared.Encoded.{Encoded}
 use Rattle.isa.specs.declared.Instr.{Instr}
 use Rattle.isa.proofs.DecodeEncode.{decoded_valid, decoded_assigned, decode_encode}
 use Rattle.isa.proofs.EncodeDecode.{encode_decode}

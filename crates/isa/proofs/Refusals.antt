@@ -5,26 +5,26 @@ use mathlib.Core.Bool.{Bool, true, false, cond, ◌||◌}
 use mathlib.Core.List.{List, [], ◌∷◌}
 use Prim.Native.Nat.{ℕ}
 use native.Mathlib.Omega.{arith}
+use Rattle.std.specs.Prelude.{Ok, Err}
 use Rattle.slices.specs.Checks.{Check, check, first_broken, NoneBroken, FirstViolation}
 use Rattle.slices.specs.Sizes.{bad_bank}
 use Rattle.slices.proofs.Checks.{Numbered, none_broken, first_violation}
-use Rattle.isa.specs.Encode.{bad_register, bad_function, encode_checks, Valid, put_checks, opcode_byte, argument_byte, join_of, encode_of, number_of, Accepted, put_of, opcodes_after, arguments_after, Put}
+use Rattle.isa.specs.Encode.{bad_register, bad_function, encode_checks, Valid, put_checks, opcode_byte, argument_byte, Encoded, join_of, encode_of, number_of, Accepted, put_of, opcodes_after, arguments_after, Put}
 use Rattle.isa.specs.Table.{row_of, opcode_in, argument_in}
-use Rattle.isa.specs.declared.Encoded.{Encoded}
-use Rattle.isa.specs.declared.Encoded.TheVariants.{Bytes, BadBank, BadRegister, BadFunction}
+use Rattle.isa.specs.declared.EncodeError.TheVariants.{BadBank, BadRegister, BadFunction}
 use Rattle.isa.specs.declared.Instr.{Instr}
 use Rattle.isa.specs.declared.Row.{Row}
 
 -- a row with good letters is not refused
 pub joins : (r : Row) → bad_register r ≡ false → bad_function (argument_in r) ≡ false
-    → join_of r ≡ Bytes (opcode_byte (opcode_in r)) (argument_byte (argument_in r))
+    → join_of r ≡ Ok (opcode_byte (opcode_in r), argument_byte (argument_in r))
 unfolding join_of
 joins r o f = rw (o, f)
 
 -- ---- encoding
 
 encode_number : (a b : Bool) (op arg : ℕ)
-    → number_of (cond a BadRegister (cond b BadFunction (Bytes op arg))) ≡ first_broken (check 22 0 a ∷ check 23 0 b ∷ [])
+    → number_of (cond a (Err BadRegister) (cond b (Err BadFunction) (Ok (op, arg)))) ≡ first_broken (check 22 0 a ∷ check 23 0 b ∷ [])
 unfolding first_broken
 encode_number true b op arg = refl
 encode_number false true op arg = refl
@@ -49,18 +49,16 @@ encode_accepted i v =
 
 -- ---- putting
 
-put_number : (t : Bool) (e : Encoded) (cs : List Check) → number_of e ≡ first_broken cs → number_of (cond t BadBank e) ≡ first_broken (check 1 0 t ∷ cs)
+put_number : (t : Bool) (e : Encoded) (cs : List Check) → number_of e ≡ first_broken cs → number_of (cond t (Err BadBank) e) ≡ first_broken (check 1 0 t ∷ cs)
 unfolding first_broken
 put_number true e cs h = refl
 put_number false e cs h = h
 
 -- a refusal leaves a bank as it was
-pub refusal_keeps : (e : Encoded) → ((op arg : ℕ) → e ≡ Bytes op arg → ⊥) → (bank : List ℕ) (at : ℕ)
+pub refusal_keeps : (e : Encoded) → ((bytes : ℕ × ℕ) → e ≡ Ok bytes → ⊥) → (bank : List ℕ) (at : ℕ)
     → (opcodes_after e bank at ≡ bank) × (arguments_after e bank at ≡ bank)
-refusal_keeps (Bytes op arg) h bank at = absurd (h op arg refl)
-refusal_keeps BadBank h bank at = (refl, refl)
-refusal_keeps BadRegister h bank at = (refl, refl)
-refusal_keeps BadFunction h bank at = (refl, refl)
+refusal_keeps (Ok bytes) h bank at = absurd (h bytes refl)
+refusal_keeps (Err refusal) h bank at = (refl, refl)
 
 module _ (i : Instr) (ops args : List ℕ) where
   put_first : number_of (put_of i ops args) ≡ first_broken (put_checks i ops args)
@@ -74,8 +72,8 @@ module _ (i : Instr) (ops args : List ℕ) where
   unfolding put_of
   put_accepted v = rw v.0 (encode_accepted i v.1)
 
-  no_bytes : (NoneBroken (put_checks i ops args) → ⊥) → (op arg : ℕ) → put_of i ops args ≡ Bytes op arg → ⊥
-  no_bytes broken op arg e = broken (none_broken (put_checks i ops args) numbered (sym put_first ∙ ap number_of e))
+  no_bytes : (NoneBroken (put_checks i ops args) → ⊥) → (bytes : ℕ × ℕ) → put_of i ops args ≡ Ok bytes → ⊥
+  no_bytes broken bytes e = broken (none_broken (put_checks i ops args) numbered (sym put_first ∙ ap number_of e))
 
   -- the answer and the banks after it decide the rest
   pub put_outcome : (at : ℕ) {answer : Encoded} {ops' args' : List ℕ} → answer ≡ put_of i ops args

@@ -1,13 +1,13 @@
 -- Encoding: the two bytes of an instruction, or the refusal 22 or 23 of 01; and putting them into the two banks, or also the refusal 1.
 -- Assumes nothing.
-use Rattle.std.specs.Prelude.{ℕ, ◌+◌, ◌*◌, ◌%◌, ◌≡◌, Bool, false, cond, ◌||◌, List, [], ◌∷◌, ltb, set}
+use Rattle.std.specs.Prelude.{ℕ, ◌+◌, ◌*◌, ◌%◌, ◌≡◌, Bool, false, cond, ◌||◌, List, [], ◌∷◌, ltb, set, Result, Ok, Err}
 use Rattle.slices.specs.Checks.{Check, check, NoneBroken, FirstViolation}
 use Rattle.slices.specs.Sizes.{bad_bank}
 use Rattle.isa.specs.Table.{row_of, opcode_in, argument_in}
 use Rattle.isa.specs.declared.Argument.{Argument}
 use Rattle.isa.specs.declared.Argument.TheVariants.{FFFFXXBB, IIIIIIII, XXXXXXBB, XXXXXXXX}
-use Rattle.isa.specs.declared.Encoded.{Encoded}
-use Rattle.isa.specs.declared.Encoded.TheVariants.{Bytes, BadBank, BadRegister, BadFunction}
+use Rattle.isa.specs.declared.EncodeError.{EncodeError}
+use Rattle.isa.specs.declared.EncodeError.TheVariants.{BadBank, BadRegister, BadFunction}
 use Rattle.isa.specs.declared.Instr.{Instr}
 use Rattle.isa.specs.declared.Opcode.{Opcode}
 use Rattle.isa.specs.declared.Opcode.TheVariants.{DDAA, DDXX, OOAA, OOXX}
@@ -61,44 +61,44 @@ argument_byte (IIIIIIII i) = i
 argument_byte (XXXXXXBB b) = b
 argument_byte XXXXXXXX = 0
 
+-- the answer to an instruction: its opcode byte and its argument byte, or why there are none
+abbrev pub Encoded : Type 0
+Encoded = Result (ℕ × ℕ) EncodeError
+
 -- 01: "the lowest number that applies first"
 unfoldable pub join_of : Row → Encoded
 join_of r =
-    cond (bad_register r) BadRegister
-    (cond (bad_function (argument_in r)) BadFunction (Bytes (opcode_byte (opcode_in r)) (argument_byte (argument_in r))))
+    cond (bad_register r) (Err BadRegister)
+    (cond (bad_function (argument_in r)) (Err BadFunction) (Ok (opcode_byte (opcode_in r), argument_byte (argument_in r))))
 
 unfoldable pub encode_of : Instr → Encoded
 encode_of i = join_of (row_of i)
 
 -- 01's number for each case of the answer, 0 where nothing is refused
 abbrev pub number_of : Encoded → ℕ
-number_of (Bytes op arg) = 0
-number_of BadBank = 1
-number_of BadRegister = 22
-number_of BadFunction = 23
+number_of (Ok bytes) = 0
+number_of (Err BadBank) = 1
+number_of (Err BadRegister) = 22
+number_of (Err BadFunction) = 23
 
 -- a good call's answer: two bytes
 pub record Accepted (e : Encoded) : Type 0 where
   pub opcode : ℕ
   pub argument : ℕ
-  pub bytes : e ≡ Bytes opcode argument
+  pub bytes : e ≡ Ok (opcode, argument)
 
 -- the answer to an instruction put into the two banks
 unfoldable pub put_of : Instr → List ℕ → List ℕ → Encoded
-put_of i ops args = cond (bad_bank ops || bad_bank args) BadBank (encode_of i)
+put_of i ops args = cond (bad_bank ops || bad_bank args) (Err BadBank) (encode_of i)
 
 -- what an answer leaves in either bank: its byte at the address, or, for a refusal, the bank as it was
 abbrev pub opcodes_after : Encoded → List ℕ → ℕ → List ℕ
-opcodes_after (Bytes op arg) bank at = set bank at op
-opcodes_after BadBank bank at = bank
-opcodes_after BadRegister bank at = bank
-opcodes_after BadFunction bank at = bank
+opcodes_after (Ok bytes) bank at = set bank at bytes.0
+opcodes_after (Err refusal) bank at = bank
 
 abbrev pub arguments_after : Encoded → List ℕ → ℕ → List ℕ
-arguments_after (Bytes op arg) bank at = set bank at arg
-arguments_after BadBank bank at = bank
-arguments_after BadRegister bank at = bank
-arguments_after BadFunction bank at = bank
+arguments_after (Ok bytes) bank at = set bank at bytes.1
+arguments_after (Err refusal) bank at = bank
 
 -- the first demand of a call to put i, which answers a number
 pub record PutChecked (i : Instr) (ops args : List ℕ) (number : ℕ) (ops' args' : List ℕ) : Type 0 where

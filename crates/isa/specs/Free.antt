@@ -1,12 +1,11 @@
 -- The free bits of a row, those that 003's table writes X, and two bytes with them cleared.
 -- Assumes nothing.
-use Rattle.std.specs.Prelude.{ℕ, ◌-◌}
+use Rattle.std.specs.Prelude.{ℕ, ◌-◌, Ok}
 use Rattle.std.specs.Int.Bits.{bit_and}
+use Rattle.isa.specs.Encode.{Encoded}
 use Rattle.isa.specs.Table.{opcode_in, argument_in}
 use Rattle.isa.specs.declared.Argument.{Argument}
 use Rattle.isa.specs.declared.Argument.TheVariants.{FFFFXXBB, IIIIIIII, XXXXXXBB, XXXXXXXX}
-use Rattle.isa.specs.declared.Encoded.{Encoded}
-use Rattle.isa.specs.declared.Encoded.TheVariants.{Bytes}
 use Rattle.isa.specs.declared.Opcode.{Opcode}
 use Rattle.isa.specs.declared.Opcode.TheVariants.{DDAA, DDXX, OOAA, OOXX}
 use Rattle.isa.specs.declared.Row.{Row}
@@ -29,4 +28,4 @@ abbrev pub without : ℕ → ℕ → ℕ
 without free byte = bit_and byte (255 - free)
 
 abbrev pub cleared_of : Row → ℕ → ℕ → Encoded
-cleared_of r op arg = Bytes (without (free_in_opcode (opcode_in r)) op) (without (free_in_argument (argument_in r)) arg)
+cleared_of r op arg = Ok (without (free_in_opcode (opcode_in r)) op, without (free_in_argument (argument_in r)) arg)

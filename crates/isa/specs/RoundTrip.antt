@@ -1,19 +1,17 @@
 -- What decoding two bytes and encoding an instruction promise; above all the second demand's sentences: "instruction -> two bytes ->
 -- instruction is the identity; two bytes read and written again differ only in free bits".
 -- Assumes nothing.
-use Rattle.std.specs.Prelude.{ℕ, ◌/◌, ◌%◌, ◌≡◌, true}
+use Rattle.std.specs.Prelude.{ℕ, ◌/◌, ◌%◌, ◌≡◌, true, Ok}
 use Rattle.slices.specs.Checks.{FirstViolation}
 use Rattle.isa.specs.Decode.{forms, matches, rows_for, decode_of}
-use Rattle.isa.specs.Encode.{encode_checks, Valid, encode_of, number_of, Accepted}
+use Rattle.isa.specs.Encode.{encode_checks, Valid, Encoded, encode_of, number_of, Accepted}
 use Rattle.isa.specs.Free.{cleared_of}
 use Rattle.isa.specs.Table.{row_of, opcode_in}
-use Rattle.isa.specs.declared.Encoded.{Encoded}
-use Rattle.isa.specs.declared.Encoded.TheVariants.{Bytes}
 use Rattle.isa.specs.declared.Instr.{Instr}
 
 -- the bytes that an answer for i holds, if any, decode to i
 abbrev pub ReadsBack : Instr → Encoded → Type 0
-ReadsBack i e = (op arg : ℕ) → e ≡ Bytes op arg → decode_of op arg ≡ i
+ReadsBack i e = (op arg : ℕ) → e ≡ Ok (op, arg) → decode_of op arg ≡ i
 
 -- i encodes to the two bytes with the free bits of its row cleared, so it is not refused
 abbrev pub WritesBack : ℕ → ℕ → Instr → Type 0

@@ -100,11 +100,9 @@ pub enum Argument {
 #[derive(Clone, Copy)]
 pub struct Row(pub Opcode, pub Argument, pub u8);
 
-// The answer to an instruction to be encoded, or put into the two banks: its bytes, or a refusal.
-// Only putting gives BadBank.
+// Why an instruction is not encoded, or not put into the two banks. Only putting gives BadBank.
 #[derive(Clone, Copy)]
-pub enum Encoded {
-    Bytes(u8, u8),
+pub enum EncodeError {
     BadBank,
     BadRegister,
     BadFunction,

@@ -3,12 +3,12 @@
 use mathlib.Core.Path.{◌≡◌, refl}
 use mathlib.Core.List.{List}
 use native.Mathlib.Omega.{arith}
+use Rattle.std.specs.Prelude.{Ok, Err}
 use Rattle.slices.specs.Checks.{Check, FirstViolation}
 use Rattle.isa.specs.Decode.{decode_of}
-use Rattle.isa.specs.Encode.{number_of, Accepted}
+use Rattle.isa.specs.Encode.{Encoded, number_of, Accepted}
 use Rattle.isa.specs.RoundTrip.{ReadsBack}
-use Rattle.isa.specs.declared.Encoded.{Encoded}
-use Rattle.isa.specs.declared.Encoded.TheVariants.{Bytes, BadBank, BadRegister, BadFunction}
+use Rattle.isa.specs.declared.EncodeError.TheVariants.{BadBank, BadRegister, BadFunction}
 use Rattle.isa.specs.declared.Instr.{Instr}
 use Rattle.isa.specs.declared.Instr.TheVariants.{Alu, AddImm, AluNone, CmpImm, MaskImm, MaskIn, MovImm, MovIn, Ack, StoreAddr, StoreReg, Push, LoadAddr, LoadReg, Pop, Swap, Jmp, JmpReg, Call, Ret, Jz, Jnz, Jc, Jnc, Jv, Jnv, Jlz, Jp, Jgz, Jleu, Jlt, Jle, LcdCmd, LcdImm, LcdReg, LcdMem, OutReg, OutMem, Hlt, Nop}
 use Rattle.numbers.specs.Numbers.{fields_of, instr_of, encoding_of}
@@ -58,16 +58,14 @@ fields_inverse Nop = refl
 
 -- an answer's first number is 01's, and the two others are its bytes
 pub number_checked : (cs : List Check) (e : Encoded) → FirstViolation cs (number_of e) → FirstViolation cs (encoding_of e).0
-number_checked cs (Bytes op arg) h = h
-number_checked cs BadBank h = h
-number_checked cs BadRegister h = h
-number_checked cs BadFunction h = h
+number_checked cs (Ok bytes) h = h
+number_checked cs (Err refusal) h = h
 
-pub bytes_held : (e : Encoded) → Accepted e → e ≡ Bytes (encoding_of e).1 (encoding_of e).2
+pub bytes_held : (e : Encoded) → Accepted e → e ≡ Ok ((encoding_of e).1, (encoding_of e).2)
 bytes_held e a = rw a.bytes
 
 pub bytes_read_back : (i : Instr) (e : Encoded) → ReadsBack i e → (encoding_of e).0 ≡ 0 → decode_of (encoding_of e).1 (encoding_of e).2 ≡ i
-bytes_read_back i (Bytes op arg) h z = h op arg refl
-bytes_read_back i BadBank h z = absurd (omega arith)
-bytes_read_back i BadRegister h z = absurd (omega arith)
-bytes_read_back i BadFunction h z = absurd (omega arith)
+bytes_read_back i (Ok bytes) h z = h bytes.0 bytes.1 refl
+bytes_read_back i (Err BadBank) h z = absurd (omega arith)
+bytes_read_back i (Err BadRegister) h z = absurd (omega arith)
+bytes_read_back i (Err BadFunction) h z = absurd (omega arith)

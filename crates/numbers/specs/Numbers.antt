@@ -1,17 +1,15 @@
 -- What each number at the boundary means: an instruction, an encoder's answer, a result with flags and an instruction's facts as numbers.
 -- Assumes nothing.
-use Rattle.std.specs.Prelude.{ℕ, Bool, true, false, get_or}
+use Rattle.std.specs.Prelude.{ℕ, Bool, true, false, get_or, Ok, Err}
 use Rattle.alu.specs.declared.Computed.{Computed}
 use Rattle.alu.specs.declared.Overflow.{Overflow}
 use Rattle.alu.specs.declared.Overflow.TheVariants.{Unsettled, Settled}
 use Rattle.isa.specs.Decode.{forms}
-use Rattle.isa.specs.Encode.{number_of}
+use Rattle.isa.specs.Encode.{Encoded, number_of}
 use Rattle.isa.specs.Facts.{class_of, writes_roll}
 use Rattle.isa.specs.Table.{cycles_of}
 use Rattle.isa.specs.declared.Class.{Class}
 use Rattle.isa.specs.declared.Class.TheVariants as class
-use Rattle.isa.specs.declared.Encoded.{Encoded}
-use Rattle.isa.specs.declared.Encoded.TheVariants.{Bytes, BadBank, BadRegister, BadFunction}
 use Rattle.isa.specs.declared.Instr.{Instr}
 use Rattle.isa.specs.declared.Instr.TheVariants.{Alu, AddImm, AluNone, CmpImm, MaskImm, MaskIn, MovImm, MovIn, Ack, StoreAddr, StoreReg, Push, LoadAddr, LoadReg, Pop, Swap, Jmp, JmpReg, Call, Ret, Jz, Jnz, Jc, Jnc, Jv, Jnv, Jlz, Jp, Jgz, Jleu, Jlt, Jle, LcdCmd, LcdImm, LcdReg, LcdMem, OutReg, OutMem, Hlt, Nop}
 use Rattle.isa.specs.declared.OverflowEffect.{OverflowEffect}
@@ -70,10 +68,8 @@ instr_of x = get_or (forms x.1 x.2 x.3 x.4 x.5) x.0 Nop
 
 -- 01's number, and the two bytes, 0 where there are none
 abbrev pub encoding_of : Encoded → Encoding
-encoding_of (Bytes op arg) = (0, op, arg)
-encoding_of BadBank = (number_of BadBank, 0, 0)
-encoding_of BadRegister = (number_of BadRegister, 0, 0)
-encoding_of BadFunction = (number_of BadFunction, 0, 0)
+encoding_of (Ok bytes) = (0, bytes.0, bytes.1)
+encoding_of (Err refusal) = (number_of (Err refusal), 0, 0)
 
 -- V: 0 clear, 1 set, 2 unsettled
 abbrev pub overflow_number : Overflow → ℕ

@@ -6,7 +6,7 @@ ghost use Rattle.std.specs.Prelude.{◌≡◌};
 ghost use Rattle.numbers.specs.Numbers.{fields_of, instr_of, encoding_of, overflow_number, computed_numbers, effect_number, fact_numbers};
 
 use alu::{Computed, Overflow};
-use isa::{Class, Encoded, Instr, OverflowEffect};
+use isa::{Class, EncodeError, Instr, OverflowEffect};
 
 // An instruction: row of the instruction table, d, a, f, b, immediate or address.
 #[repr(C)]
@@ -131,14 +131,12 @@ pub fn instruction(x: Fields) -> Instr
 }
 
 // The numbers of an encoder's answer.
-pub fn encoding_of(e: Encoded) -> Encoding
-    ensures { result ≡ encoding_of e }
+pub fn encoding_of(answer: Result<(u8, u8), EncodeError>) -> Encoding
+    ensures { result ≡ encoding_of answer }
 {
-    match e {
-        Encoded::Bytes(opcode, argument) => Encoding(0, opcode, argument),
-        Encoded::BadBank => Encoding(encoding::number(Encoded::BadBank), 0, 0),
-        Encoded::BadRegister => Encoding(encoding::number(Encoded::BadRegister), 0, 0),
-        Encoded::BadFunction => Encoding(encoding::number(Encoded::BadFunction), 0, 0),
+    match answer {
+        Ok((opcode, argument)) => Encoding(0, opcode, argument),
+        Err(_) => Encoding(encoding::number(answer), 0, 0),
     }
 }
 

@@ -5,9 +5,8 @@ use mathlib.Core.Path.{◌≡◌, refl, sym, ap, ◌∙◌}
 use mathlib.Core.List.{List, []}
 use native.Mathlib.Nat.{add-zero}
 use lib.ListN.{take, drop}
-use Rattle.isa.specs.Encode.{encode_of}
-use Rattle.isa.specs.declared.Encoded.{Encoded}
-use Rattle.isa.specs.declared.Encoded.TheVariants.{Bytes, BadBank, BadRegister, BadFunction}
+use Rattle.std.specs.Prelude.{Ok, Err}
+use Rattle.isa.specs.Encode.{Encoded, encode_of}
 use Rattle.isa.specs.declared.Instr.{Instr}
 use Rattle.spelling.specs.Spellings.{forms_of}
 use Rattle.reading.specs.declared.Matched.{Matched}
@@ -23,16 +22,14 @@ use Rattle.words.specs.internal.Storing.{stored_in, LineStored}
 abbrev word_in : Encoded → Word
 word_in e = (opcode_from e, argument_from e)
 
-pub word_told : (i : Instr) {e : Encoded} {op arg : ℕ} → e ≡ encode_of i → e ≡ Bytes op arg → ◌≡◌ {A = Word} (op, arg) (opcode_of i, argument_of i)
+pub word_told : (i : Instr) {e : Encoded} {op arg : ℕ} → e ≡ encode_of i → e ≡ Ok (op, arg) → ◌≡◌ {A = Word} (op, arg) (opcode_of i, argument_of i)
 word_told i t q = sym (ap word_in (sym t ∙ q))
 
-no_bytes : (e : Encoded) → ((op arg : ℕ) → e ≡ Bytes op arg → ⊥) → ◌≡◌ {A = Word} (0, 0) (word_in e)
-no_bytes (Bytes op arg) none = absurd (none op arg refl)
-no_bytes BadBank none = refl
-no_bytes BadRegister none = refl
-no_bytes BadFunction none = refl
+no_bytes : (e : Encoded) → ((bytes : ℕ × ℕ) → e ≡ Ok bytes → ⊥) → ◌≡◌ {A = Word} (0, 0) (word_in e)
+no_bytes (Ok bytes) none = absurd (none bytes refl)
+no_bytes (Err refusal) none = refl
 
-pub word_refused : (i : Instr) {e : Encoded} → e ≡ encode_of i → ((op arg : ℕ) → e ≡ Bytes op arg → ⊥) → ◌≡◌ {A = Word} (0, 0) (opcode_of i, argument_of i)
+pub word_refused : (i : Instr) {e : Encoded} → e ≡ encode_of i → ((bytes : ℕ × ℕ) → e ≡ Ok bytes → ⊥) → ◌≡◌ {A = Word} (0, 0) (opcode_of i, argument_of i)
 word_refused i {e} t none = no_bytes e none ∙ ap word_in t
 
 module _ (t l : List ℕ) (at : ℕ) (ops args : List ℕ) {m : Matched} (e : m ≡ line_of l) where

@@ -1,13 +1,11 @@
 -- The words of a text: the forms that its lines stand for, and their bytes in the two banks.
 -- 02 [1]: "The assembler fills both banks, words after the last line being 00."
 -- Assumes nothing.
-use Rattle.std.specs.Prelude.{ℕ, ◌+◌, cond, List, [], ◌∷◌, ◌++◌, eqb, length, take, drop}
+use Rattle.std.specs.Prelude.{Ok, Err, ℕ, ◌+◌, cond, List, [], ◌∷◌, ◌++◌, eqb, length, take, drop}
 use Rattle.slices.specs.Lists.{mapped}
 use Rattle.slices.specs.Parts.{padded}
 use Rattle.slices.specs.Sizes.{bank_size}
-use Rattle.isa.specs.Encode.{encode_of}
-use Rattle.isa.specs.declared.Encoded.{Encoded}
-use Rattle.isa.specs.declared.Encoded.TheVariants.{Bytes, BadBank, BadRegister, BadFunction}
+use Rattle.isa.specs.Encode.{Encoded, encode_of}
 use Rattle.isa.specs.declared.Instr.{Instr}
 use Rattle.spelling.specs.Spellings.{forms_of}
 use Rattle.reading.specs.declared.Matched.{Matched}
@@ -39,16 +37,12 @@ program_of t = forms_from (lines_of t) (lines_of t) 0
 
 -- the opcode byte and the argument byte of a form
 abbrev pub opcode_from : Encoded → ℕ
-opcode_from (Bytes op arg) = op
-opcode_from BadBank = 0
-opcode_from BadRegister = 0
-opcode_from BadFunction = 0
+opcode_from (Ok bytes) = bytes.0
+opcode_from (Err refusal) = 0
 
 abbrev pub argument_from : Encoded → ℕ
-argument_from (Bytes op arg) = arg
-argument_from BadBank = 0
-argument_from BadRegister = 0
-argument_from BadFunction = 0
+argument_from (Ok bytes) = bytes.1
+argument_from (Err refusal) = 0
 
 abbrev pub opcode_of : Instr → ℕ
 opcode_of i = opcode_from (encode_of i)

@@ -9,7 +9,7 @@ ghost use Rattle.labels.specs.Labels.{address_of};
 ghost use Rattle.words.specs.Program.{opcode_of, argument_of, target_by, program_of};
 ghost use Rattle.words.specs.internal.Storing.{stored_in, Ready, LineStored};
 
-use isa::{Encoded, Instr};
+use isa::Instr;
 use reading::Matched;
 use spelling::Places;
 
@@ -21,8 +21,7 @@ struct Word(u8, u8);
 fn bytes_of(instr: Instr) -> Word
     ensures { result ≡ (opcode_of instr, argument_of instr) }
 {
-    let e = encoding::encode(instr);
-    let Encoded::Bytes(opcode, argument) = e else {
+    let Ok((opcode, argument)) = encoding::encode(instr) else {
         return Word(0, 0);
     };
     Word(opcode, argument)

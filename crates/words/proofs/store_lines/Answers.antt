@@ -1,5 +1,4 @@
 -- A line a turn; the words of the lines left have room.
-use Prim.Native.Nat.{◌-◌}
 use Rattle.words.specs.Program.{opcode_of, argument_of}
 use Rattle.words.proofs.Lines.{words_start, words_go, storing_starts, storing_goes, storing_ends}
 use Rattle.words.proofs.store_lines.Goals as goal
