@@ -1,48 +1,16 @@
 -- The two loops of the judges: what is left, judged from here, gives the answer of the whole.
 -- Assumes nothing.
 use Prim.Native.Nat.{ℕ, ◌+◌, ◌≤◌, ◌<◌}
-use mathlib.Core.Path.{◌≡◌, refl}
+use mathlib.Core.Path.{refl}
 use mathlib.Core.Bool.{Bool, false, ◌&&◌}
 use mathlib.Core.List.{List, [], ◌∷◌}
 use lib.ListN.{drop}
 use lib.Dec.{eqb}
-use Rattle.groups.specs.Fields.{Read, got, refused, field_in, numbers_in}
+use Rattle.groups.specs.Fields.{got, refused, field_in, numbers_in}
 use Rattle.groups.specs.internal.Places.{ReadsAs}
 use Rattle.groups.proofs.Rows.{Rows, rows_stop, rows_go, rows_end, field_stops, one_field}
 use Rattle.files.specs.File.{byte_field, address_fields, byte_fields}
-use Rattle.checking.specs.internal.Judges.{address_by, address_place, walk_by, walk_place, end_by, end_place, ends, addresses_walk, past, bytes_end}
-use Rattle.checking.specs.declared.reading.Address.{Address}
-use Rattle.checking.specs.declared.reading.Address.TheVariants as address
-use Rattle.checking.specs.declared.judging.Walk.{Walk}
-use Rattle.checking.specs.declared.judging.Walk.TheVariants as walk
-use Rattle.checking.specs.declared.judging.End.{End}
-use Rattle.checking.specs.declared.judging.End.TheVariants as end
-
--- ---- an answer, by its case
-
-module _ (file : List ℕ) (at : ℕ) where
-  pub numbers_read : {meant : Read (List ℕ)} {r : Address} {o g x next : ℕ} → ReadsAs file at meant (address_by file r) (address_place r) → r ≡ address.Numbers o g x next
-      → ReadsAs file at meant (got (o ∷ g ∷ x ∷ []) (drop next file)) next
-  numbers_read h e = rw e at h
-
-  pub address_refused : {meant : Read (List ℕ)} {r : Address} {q p : ℕ} → ReadsAs file at meant (address_by file r) (address_place r) → r ≡ address.Refused q p
-      → ReadsAs file at meant (refused q (drop p file)) p
-  address_refused h e = rw e at h
-
-  pub walk_on : {meant : Read Bool} {r : Walk} {next : ℕ} {b : Bool} → ReadsAs file at meant (walk_by file r) (walk_place r) → r ≡ walk.On next b
-      → ReadsAs file at meant (got b (drop next file)) next
-  walk_on h e = rw e at h
-
-  pub walk_refused : {meant : Read Bool} {r : Walk} {q p : ℕ} → ReadsAs file at meant (walk_by file r) (walk_place r) → r ≡ walk.Refused q p
-      → ReadsAs file at meant (refused q (drop p file)) p
-  walk_refused h e = rw e at h
-
-  pub end_met : {meant : Read ℕ} {r : End} {next : ℕ} → ReadsAs file at meant (end_by file r) (end_place r) → r ≡ end.At next → ReadsAs file at meant (got 0 (drop next file)) next
-  end_met h e = rw e at h
-
-  pub end_refused : {meant : Read ℕ} {r : End} {q p : ℕ} → ReadsAs file at meant (end_by file r) (end_place r) → r ≡ end.Refused q p
-      → ReadsAs file at meant (refused q (drop p file)) p
-  end_refused h e = rw e at h
+use Rattle.checking.specs.internal.Judges.{ends, addresses_walk, past, bytes_end}
 
 -- ---- the addresses: rows of three fields
 

@@ -1,45 +1,46 @@
-// The three numbers of an address, read from a place on.
+// The bytes and the three numbers of an address, read from a place on.
 ghost use Rattle.std.specs.Prelude.{drop};
-ghost use Rattle.groups.specs.Fields.{numbers_in};
-ghost use Rattle.groups.specs.internal.Places.{ReadsAs};
-ghost use Rattle.files.specs.File.{address_fields};
-ghost use Rattle.checking.specs.internal.Judges.{address_by, address_place};
+ghost use Rattle.groups.specs.Fields.{field_in, numbers_in};
+ghost use Rattle.groups.specs.internal.Places.{read_by, place_of, ReadsAs};
+ghost use Rattle.files.specs.File.{byte_field, address_fields};
+ghost use Rattle.checking.specs.internal.Judges.{address_by};
 
-use groups::{Number, read_field};
+use groups::{Refusal, read_field};
 
 // The most of an opcode, an argument, an entry or a need.
-pub const MAX_BYTE: u32 = 255;
+const MAX_BYTE: u32 = 255;
 
 // The most of a sheet word.
 const MAX_WORD: u32 = 65535;
 
-// What is read of an address: opcode, argument, sheet word and the place behind them; or a
-// refusal's number and its place.
-#[derive(Clone, Copy)]
-pub enum Address {
-    Numbers(u32, u32, u32, usize),
-    Refused(u8, usize),
+// The byte at a place and the place behind its number, judged for 30 and then for its field.
+pub fn read_byte(file: &[u8], at: usize) -> Result<(u8, usize), Refusal>
+    ensures { ReadsAs file.now at (field_in byte_field (drop at file.now)) (read_by file.now result) (place_of result) }
+{
+    let (value, next) = read_field(file, at, 0, MAX_BYTE)?;
+    Ok((value as u8, next))
 }
 
-// The numbers of the address at a place, each judged for 30 and then for its field.
-pub fn read_address(file: &[u8], at: usize) -> Address
-    ensures { ReadsAs file.now at (numbers_in (address_fields 1) (drop at file.now)) (address_by file.now result) (address_place result) }
+// What the file holds of an address.
+#[derive(Clone, Copy)]
+pub struct Address {
+    pub opcode: u8,
+    pub argument: u8,
+    pub word: u16,
+}
+
+// The address at a place and the place behind its numbers, each judged for 30 and then for its
+// field.
+pub fn read_address(file: &[u8], at: usize) -> Result<(Address, usize), Refusal>
+    ensures { ReadsAs file.now at (numbers_in (address_fields 1) (drop at file.now)) (address_by file.now result) (place_of result) }
 {
-    let first = read_field(file, at, 0, MAX_BYTE);
-    match first {
-        Number::Refused(q, place) => Address::Refused(q, place),
-        Number::Value(opcode, after_opcode) => {
-            let second = read_field(file, after_opcode, 0, MAX_BYTE);
-            match second {
-                Number::Refused(q, place) => Address::Refused(q, place),
-                Number::Value(argument, after_argument) => {
-                    let third = read_field(file, after_argument, 0, MAX_WORD);
-                    match third {
-                        Number::Refused(q, place) => Address::Refused(q, place),
-                        Number::Value(word, next) => Address::Numbers(opcode, argument, word, next),
-                    }
-                }
-            }
-        }
-    }
+    let (opcode, after_opcode) = read_byte(file, at)?;
+    let (argument, after_argument) = read_byte(file, after_opcode)?;
+    let (word, next) = read_field(file, after_argument, 0, MAX_WORD)?;
+    let address = Address {
+        opcode,
+        argument,
+        word: word as u16,
+    };
+    Ok((address, next))
 }

@@ -1,20 +1,74 @@
 // Shelf files: the file of a listing, and the listing that a file opens to. `specs/` states them,
-// `proofs/` proves that each listing has one; nothing here runs.
+// `proofs/` proves that each listing has one; of the code only the refusals stand here.
 #![tactic(auto)]
+
+ghost use Rattle.std.specs.Prelude.{◌≡◌};
+ghost use Rattle.files.specs.Faults.{shelving_number, opening_number, opening_place};
+ghost use Rattle.files.specs.declared.OpeningFault.TheVariants.{File};
+
+use groups::Refusal;
 
 // The bytes that the longest file has.
 pub const FILE_ROOM: usize = 2051;
 
-// What the writer answers: the file's length, or a refusal's number.
+// Why no file is written.
 #[derive(Clone, Copy)]
-pub enum Shelved {
-    Length(usize),
-    Refused(u8),
+pub enum ShelvingFault {
+    // A part of the listing has a wrong length: banks (1), sheet (2) or list (3).
+    Length(u8),
+    // The buffer has no room for the longest file.
+    NoRoom,
 }
 
-// What the opener answers: the number of routines, or a refusal's number and its place in the file.
+impl From<ShelvingFault> for u8 {
+    ghost from_gives = { λ fault n. n ≡ shelving_number fault };
+
+    // A fault's number.
+    fn from(fault: ShelvingFault) -> u8 {
+        match fault {
+            ShelvingFault::Length(number) => number,
+            ShelvingFault::NoRoom => 32,
+        }
+    }
+}
+
+// Why no file is opened.
 #[derive(Clone, Copy)]
-pub enum Opened {
-    Routines(usize),
-    Refused(u8, usize),
+pub enum OpeningFault {
+    // A buffer has a wrong length: banks (1), sheet (2) or list (3).
+    Length(u8),
+    // The file is refused.
+    File(Refusal),
+}
+
+impl From<Refusal> for OpeningFault {
+    ghost from_gives = { λ refusal fault. fault ≡ File refusal };
+
+    fn from(refusal: Refusal) -> OpeningFault {
+        OpeningFault::File(refusal)
+    }
+}
+
+impl From<OpeningFault> for u8 {
+    ghost from_gives = { λ fault n. n ≡ opening_number fault };
+
+    // A fault's number.
+    fn from(fault: OpeningFault) -> u8 {
+        match fault {
+            OpeningFault::Length(number) => number,
+            OpeningFault::File(refusal) => u8::from(refusal.fault),
+        }
+    }
+}
+
+impl OpeningFault {
+    // Where the file is refused; 0 where it wasn't looked at.
+    pub fn place(self) -> usize
+        ensures { result ≡ opening_place self }
+    {
+        match self {
+            OpeningFault::Length(_) => 0,
+            OpeningFault::File(refusal) => refusal.at,
+        }
+    }
 }

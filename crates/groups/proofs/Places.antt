@@ -10,12 +10,15 @@ use lib.ListN.{length, get_or, drop, length-drop, drop_of_length-le}
 use lib.Seq.{drop-cons, drop-drop, get_or-drop}
 use lib.Dec.{eqb, leb, ltb}
 use borrow.Author.Tests.{ltb-true, ltb-false, lt-ltb, le-ltb, eqb-true, eq-eqb, ne_eqb, le-leb, lt-leb}
+use Rattle.std.specs.Prelude.{Some, None, Result, Ok, Err}
 use Rattle.slices.proofs.Bools.{by_test, both, neither}
-use Rattle.groups.specs.Fields.{Read, got, refused, Field, field_in}
+use Rattle.groups.specs.Faults.{fault_number}
+use Rattle.groups.specs.Fields.{refused, Field, field_in}
 use Rattle.groups.specs.Groups.{some, none, number_in}
-use Rattle.groups.specs.internal.Places.{last_of, value_in, read_by, place_of, ReadsAs}
-use Rattle.groups.specs.declared.Number.{Number}
-use Rattle.groups.specs.declared.Number.TheVariants as number
+use Rattle.groups.specs.internal.Places.{last_of, value_in, EndsAt, read_by, place_of, ReadsAs}
+use Rattle.groups.specs.declared.FileFault.{FileFault}
+use Rattle.groups.specs.declared.FileFault.TheVariants.{Malformed, OutOfBounds}
+use Rattle.groups.specs.declared.Refusal.{Refusal}
 
 -- ---- the search for the last group
 
@@ -39,8 +42,8 @@ pub record Passing (bs : List ℕ) (at i : ℕ) : Type 0 where
 pub pass_starts : {bs : List ℕ} {at : ℕ} → Passing bs at at
 pass_starts = record { from = omega arith; whole = refl }
 
-pub pass_here : {bs : List ℕ} {at i : ℕ} → Passing bs at i → i < length bs → get_or bs i 0 < 128 → i ≡ at + last_of (drop at bs)
-pass_here {bs} {at} {i} p h l = let w = p.whole in let z = last_here bs i h l in omega arith
+pub pass_here : {bs : List ℕ} {at i : ℕ} → Passing bs at i → i < length bs → get_or bs i 0 < 128 → EndsAt bs at (Some i)
+pass_here {bs} {at} {i} p h l = let w = p.whole in let z = last_here bs i h l in (omega arith, h)
 
 pub pass_next : {bs : List ℕ} {at i : ℕ} → Passing bs at i → i < length bs → 128 ≤ get_or bs i 0 → Passing bs at (i + 1)
 pass_next {bs} {at} {i} p h l =
@@ -49,7 +52,7 @@ pass_next {bs} {at} {i} p h l =
     let z = last_next bs i h l in
     record { from = omega arith; whole = omega arith }
 
-pub pass_ends : {bs : List ℕ} {at i : ℕ} → Passing bs at i → length bs ≤ i → i ≡ at + last_of (drop at bs)
+pub pass_ends : {bs : List ℕ} {at i : ℕ} → Passing bs at i → length bs ≤ i → EndsAt bs at None
 pass_ends {bs} {at} {i} p h = let w = p.whole in let z = last_none bs i h in omega arith
 
 -- ---- its value
@@ -180,19 +183,25 @@ three_groups file at {last} {top} {first} {second} p h l n o t g s =
     omega arith
 
 -- an answer of `read_field`
-abbrev Reads : (f : Field) (file : List ℕ) (at : ℕ) → Number → Type 0
+abbrev Reads : (f : Field) (file : List ℕ) (at : ℕ) → Result (ℕ × ℕ) Refusal → Type 0
 Reads f file at r = ReadsAs file at (field_in f (drop at file)) (read_by file r) (place_of r)
 
 module _ (f : Field) (file : List ℕ) (at last : ℕ) (is_last : Last file at last) where
   -- a refusal is where the number begins
-  refuses : {q : ℕ} → field_in f (drop at file) ≡ refused q (drop at file) → Reads f file at (number.Refused q at)
-  refuses e = record { reads = sym e; within = λ h. h }
+  refuses : (q : FileFault) → field_in f (drop at file) ≡ refused (fault_number q) (drop at file) → Reads f file at (Err (record { fault = q; at = at }))
+  refuses q e = record { reads = sym e; within = λ h. h }
 
-  pub read_cut : length file ≤ last → Reads f file at (number.Refused 30 at)
+  abbrev malformed : Refusal
+  malformed = record { fault = Malformed; at = at }
+
+  abbrev out_of_bounds : Refusal
+  out_of_bounds = record { fault = OutOfBounds; at = at }
+
+  pub read_cut : length file ≤ last → Reads f file at (Err malformed)
   unfolding field_in
   read_cut h =
       let l = length-drop at file in
-      refuses (rw (number_cut (drop at file) (omega arith)))
+      refuses Malformed (rw (number_cut (drop at file) (omega arith)))
 
   top_byte : get_or (drop at file) (last_of (drop at file)) 0 ≡ get_or file last 0
   top_byte = get_or-drop at file (last_of (drop at file)) 0 ∙ ap (λ (i : ℕ). get_or file i 0) (sym is_last)
@@ -200,9 +209,9 @@ module _ (f : Field) (file : List ℕ) (at last : ℕ) (is_last : Last file at l
   inside : last < length file → last_of (drop at file) < length (drop at file)
   inside h = let l = length-drop at file in omega arith
 
-  pub read_padded : last < length file → at < last → get_or file last 0 ≡ 0 → Reads f file at (number.Refused 30 at)
+  pub read_padded : last < length file → at < last → get_or file last 0 ≡ 0 → Reads f file at (Err malformed)
   unfolding field_in
-  read_padded h l z = refuses (rw (number_padded (drop at file) (inside h) (omega arith) (top_byte ∙ z)))
+  read_padded h l z = refuses Malformed (rw (number_padded (drop at file) (inside h) (omega arith) (top_byte ∙ z)))
 
   module _ (h : last < length file) (z : at < last → get_or file last 0 ≡ 0 → ⊥) where
     number_here : number_in (drop at file) ≡ some (value_in (drop at file)) (drop (last + 1) file)
@@ -212,19 +221,19 @@ module _ (f : Field) (file : List ℕ) (at last : ℕ) (is_last : Last file at l
         ∙ ap (some (value_in (drop at file))) (drop-drop (suc (last_of (drop at file))) at file ∙ ap (λ (i : ℕ). drop i file) behind)
 
     -- over three groups and in its shortest form: over every field
-    pub read_long : 2 < last - at → f.high < 2097152 → Reads f file at (number.Refused 31 at)
+    pub read_long : 2 < last - at → f.high < 2097152 → Reads f file at (Err out_of_bounds)
     unfolding field_in
     read_long l b =
         let w = weight_large (last_of (drop at file)) (omega arith) in
         let v = value_weight (drop at file) (inside h) (λ q. z (omega arith) (sym top_byte ∙ q)) in
-        refuses (rw (number_here, lt-leb (value_in (drop at file)) f.high (omega arith), and-false (leb f.low (value_in (drop at file)))))
+        refuses OutOfBounds (rw (number_here, lt-leb (value_in (drop at file)) f.high (omega arith), and-false (leb f.low (value_in (drop at file)))))
 
     module _ {v : ℕ} (e : v ≡ value_in (drop at file)) where
-      pub read_other : ltb v f.low || ltb f.high v ≡ true → Reads f file at (number.Refused 31 at)
+      pub read_other : ltb v f.low || ltb f.high v ≡ true → Reads f file at (Err out_of_bounds)
       unfolding field_in
-      read_other t = refuses (rw (number_here, ← e, out_of f.low f.high v t))
+      read_other t = refuses OutOfBounds (rw (number_here, ← e, out_of f.low f.high v t))
 
-      pub read_good : ltb v f.low || ltb f.high v ≡ false → Reads f file at (number.Value v (last + 1))
+      pub read_good : ltb v f.low || ltb f.high v ≡ false → Reads f file at (Ok (v, last + 1))
       unfolding field_in
       read_good t = record { reads = rw (number_here, ← e, in_it f.low f.high v t); within = λ l. omega arith }
 
@@ -234,12 +243,3 @@ not_padded at last b t l e = let z : ◌≡◌ {A = Bool} true false = (rw (lt-l
 
 pub padded : (at last b : ℕ) → ltb 0 (last - at) && eqb b 0 ≡ true → (at < last) × (b ≡ 0)
 padded at last b t = let u = both (ltb 0 (last - at)) (eqb b 0) t in (omega (arith, ltb-true 0 (last - at) u.0), eqb-true b 0 u.1)
-
--- ---- an answer, by its case
-
-module _ (file : List ℕ) (at : ℕ) {meant : Read ℕ} {r : Number} where
-  pub value_read : {v next : ℕ} → ReadsAs file at meant (read_by file r) (place_of r) → r ≡ number.Value v next → ReadsAs file at meant (got v (drop next file)) next
-  value_read h e = rw e at h
-
-  pub refusal_read : {q p : ℕ} → ReadsAs file at meant (read_by file r) (place_of r) → r ≡ number.Refused q p → ReadsAs file at meant (refused q (drop p file)) p
-  refusal_read h e = rw e at h

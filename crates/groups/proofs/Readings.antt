@@ -2,9 +2,11 @@
 -- Assumes nothing.
 use Prim.Native.Nat.{ℕ}
 use native.Mathlib.Omega.{arith}
-use mathlib.Core.Path.{◌≡◌, refl}
+use mathlib.Core.Path.{◌≡◌, refl, ap, ◌∙◌}
 use mathlib.Core.Bool.{Bool, true, false, cond}
 use mathlib.Core.List.{List}
+use Rattle.std.specs.Prelude.{Result, Err, IsErrAnd}
+use Rattle.std.proofs.lemmas.Result.{err_from_is_err_and}
 use Rattle.groups.specs.Fields.{Read, got, refused, and_then}
 
 pub not_got {ℓ} : {A : Type 0} {X : Type ℓ} {q : ℕ} {from : List ℕ} {a : A} {rest : List ℕ} → refused q from ≡ got a rest → X
@@ -38,3 +40,7 @@ then_same (refused q from) f g h = refl
 pub then_got : {A : Type 0} (r : Read A) → and_then r got ≡ r
 then_got (got a rest) = refl
 then_got (refused q from) = refl
+
+-- what `?` hands on is the refusal that it met
+pub handed_on : {T E : Type 0} (r : Result T E) {e : E} → IsErrAnd r (λ y. y ≡ e) → r ≡ Err e
+handed_on r h = let p = err_from_is_err_and r h in p.1 ∙ ap Err p.2

@@ -2,16 +2,38 @@
 #![tactic(auto)]
 
 ghost use Rattle.std.specs.Prelude.{◌≡◌, ◌+◌, ◌%◌, ◌<◌, ◌≤◌, length, drop};
+ghost use Rattle.groups.specs.Faults.{fault_number};
 ghost use Rattle.groups.specs.Fields.{field, field_in};
 ghost use Rattle.groups.specs.Groups.{groups_of};
-ghost use Rattle.groups.specs.internal.Places.{last_of, value_in, read_by, place_of, ReadsAs};
+ghost use Rattle.groups.specs.internal.Places.{last_of, value_in, EndsAt, read_by, place_of, ReadsAs};
 ghost use Rattle.pages.specs.Page.{page, write_of};
 
-// What is read of a number: its value and the place behind it, or a refusal's number and its place.
+// Why bytes are refused.
 #[derive(Clone, Copy)]
-pub enum Number {
-    Value(u32, usize),
-    Refused(u8, usize),
+pub enum FileFault {
+    // A number is cut off or isn't in its shortest form.
+    Malformed,
+    // A number is beyond its field, or more than is allowed.
+    OutOfBounds,
+}
+
+impl From<FileFault> for u8 {
+    ghost from_gives = { λ fault n. n ≡ fault_number fault };
+
+    // A fault's number.
+    fn from(fault: FileFault) -> u8 {
+        match fault {
+            FileFault::Malformed => 30,
+            FileFault::OutOfBounds => 31,
+        }
+    }
+}
+
+// What refuses a file, and its place there.
+#[derive(Clone, Copy)]
+pub struct Refusal {
+    pub fault: FileFault,
+    pub at: usize,
 }
 
 // A number is written from a place on; the place after it.
@@ -27,26 +49,23 @@ pub fn put_number(out: &mut [u8], at: usize, n: u32) -> usize
     pages::put(out, next, rest as u8)
 }
 
-// The place of the last group of the number at a place; the file's length or more where it is cut
-// off.
-fn last_group(file: &[u8], at: usize) -> usize
-    ensures { result ≡ at + last_of (drop at file.now) }
+// The place of the last group of the number at a place; none where it is cut off.
+fn last_group(file: &[u8], at: usize) -> Option<usize>
+    ensures { EndsAt file.now at result }
 {
-    let mut i = at;
-    while i < file.len() {
+    for i in at..file.len() {
         if file[i] < 128 {
-            return i;
+            return Some(i);
         }
-        i += 1;
     }
-    i
+    None
 }
 
 // The lower seven bits of a byte.
 fn group(b: u8) -> u32
     ensures { (result ≡ b % 128) × (result < 128) }
 {
-    (b % 128) as u32
+    u32::from(b % 128)
 }
 
 // The number at a place, whose last group is at most two places on.
@@ -65,26 +84,33 @@ fn value_at(file: &[u8], at: usize, last: usize) -> u32
     first + 128 * (group(file[at + 1]) + 128 * top)
 }
 
-// The number at a place, judged for 30 and then for its field. No field goes beyond three groups,
-// so a longer number in its shortest form exceeds it, however long it is.
-pub fn read_field(file: &[u8], at: usize, low: u32, high: u32) -> Number
+// The number at a place and the place behind it, judged for 30 and then for its field. No field
+// goes beyond three groups, so a longer number in its shortest form exceeds it, however long it is.
+pub fn read_field(file: &[u8], at: usize, low: u32, high: u32) -> Result<(u32, usize), Refusal>
     requires { high < 2097152 }
     ensures { ReadsAs file.now at (field_in (field low high) (drop at file.now)) (read_by file.now result) (place_of result) }
 {
-    let last = last_group(file, at);
-    if file.len() <= last {
-        return Number::Refused(30, at);
-    }
+    let malformed = Refusal {
+        fault: FileFault::Malformed,
+        at,
+    };
+    let out_of_bounds = Refusal {
+        fault: FileFault::OutOfBounds,
+        at,
+    };
+    let Some(last) = last_group(file, at) else {
+        return Err(malformed);
+    };
     let before = last - at;
     if (0 < before) & (file[last] == 0) {
-        return Number::Refused(30, at);
+        return Err(malformed);
     }
     if 2 < before {
-        return Number::Refused(31, at);
+        return Err(out_of_bounds);
     }
     let value = value_at(file, at, last);
     if (value < low) | (high < value) {
-        return Number::Refused(31, at);
+        return Err(out_of_bounds);
     }
-    Number::Value(value, last + 1)
+    Ok((value, last + 1))
 }

@@ -17,7 +17,7 @@ use Rattle.groups.proofs.Fields.{InFields}
 use Rattle.files.specs.File.{address_fields, column, word_column, listing_of}
 use Rattle.files.proofs.Columns.{column_length, column_at, sheet_length, sheet_low, sheet_high}
 use Rattle.opening.specs.internal.Fills.{TakenIs, Takes, FillsAddresses}
-use Rattle.opening.specs.declared.Taken.{Taken}
+use Rattle.checking.specs.declared.reading.Address.{Address}
 
 -- the numbers xs of an address
 abbrev opcode_in : List ℕ → ℕ → ℕ
@@ -57,26 +57,25 @@ fill_starts file at n ops args sheet o g s =
     }
 
 -- the numbers of address a are taken, and those of the others stand behind them
-record Turn (file : List ℕ) (n : ℕ) (xs rest : List ℕ) (a : ℕ) (t : Taken) : Type 0 where
-  is : TakenIs file (opcode_in xs a) (argument_in xs a) (word_in xs a) (drop t.next file) t
-  ahead : numbers_in (address_fields (n - (a + 1))) (drop t.next file) ≡ got (drop (3 * (a + 1)) xs) rest
+record Turn (file : List ℕ) (n : ℕ) (xs rest : List ℕ) (a : ℕ) (t : Address × ℕ) : Type 0 where
+  is : TakenIs file (opcode_in xs a) (argument_in xs a) (word_in xs a) (drop t.1 file) t
+  ahead : numbers_in (address_fields (n - (a + 1))) (drop t.1 file) ≡ got (drop (3 * (a + 1)) xs) rest
 
-turn_put : (file : List ℕ) (k : ℕ) (xs rest : List ℕ) (a j : ℕ) (t : Taken) (o g w : ℕ) (mid : List ℕ) → TakenIs file o g w mid t → get_or xs (3 * a + 0) 0 ≡ o
+turn_put : (file : List ℕ) (k : ℕ) (xs rest : List ℕ) (a j : ℕ) (t : Address × ℕ) (o g w : ℕ) (mid : List ℕ) → TakenIs file o g w mid t → get_or xs (3 * a + 0) 0 ≡ o
     → argument_in xs a ≡ g → word_in xs a ≡ w → numbers_in (address_fields k) mid ≡ got (drop (3 * a + 3) xs) rest → j ≡ 3 * a + 3
-    → TakenIs file (opcode_in xs a) (argument_in xs a) (word_in xs a) (drop t.next file) t × (numbers_in (address_fields k) (drop t.next file) ≡ got (drop j xs) rest)
+    → TakenIs file (opcode_in xs a) (argument_in xs a) (word_in xs a) (drop t.1 file) t × (numbers_in (address_fields k) (drop t.1 file) ≡ got (drop j xs) rest)
 turn_put file k xs rest a j t o g w mid i x y z b q =
     let first : opcode_in xs a ≡ get_or xs (3 * a + 0) 0 = ap (λ (m : ℕ). get_or xs m 0) (omega arith) in (
       record {
         opcode = i.opcode ∙ sym (first ∙ x);
         argument = i.argument ∙ sym y;
-        low = i.low ∙ ap (λ (m : ℕ). m % 256) (sym z);
-        high = i.high ∙ ap (λ (m : ℕ). m / 256) (sym z);
+        word = i.word ∙ sym z;
         next = refl;
       },
       ap (numbers_in (address_fields k)) i.next ∙ b ∙ ap (λ (m : ℕ). got (drop m xs) rest) (sym q),
     )
 
-module _ (file : List ℕ) (n : ℕ) (xs rest : List ℕ) (a next : ℕ) (t : Taken) (e : numbers_in (address_fields (n - a)) (drop next file) ≡ got (drop (3 * a) xs) rest) where
+module _ (file : List ℕ) (n : ℕ) (xs rest : List ℕ) (a next : ℕ) (t : Address × ℕ) (e : numbers_in (address_fields (n - a)) (drop next file) ≡ got (drop (3 * a) xs) rest) where
   three : (zs : List ℕ) → InFields (address_fields 1) zs → (P : List ℕ → Type 0) → ((o g w : ℕ) → P (o ∷ g ∷ w ∷ [])) → P zs
   three (o ∷ g ∷ w ∷ []) f P h = h o g w
   three [] f P h = absurd f
@@ -109,13 +108,14 @@ module _ (file : List ℕ) (n : ℕ) (xs rest : List ℕ) (a next : ℕ) (t : Ta
       (λ s. turn_some (ltb-true a n s) (rw s at k))
       (λ s. turn_none (ltb-false a n s) (rw s at k))
 
-pub fill_goes : {file : List ℕ} {at n a next : ℕ} {ops args sheet : List ℕ} (t : Taken) → Filling file at n a next ops args sheet → a < 256 → Takes file next (ltb a n) t
-    → Filling file at n (a + 1) t.next (set ops a t.opcode) (set args a t.argument) (set (set sheet (2 * a) t.low) (2 * a + 1) t.high)
-fill_goes {file} {at} {n} {a} {next} {ops} {args} {sheet} t f h k =
+pub fill_goes : {file : List ℕ} {at n a next : ℕ} {ops args sheet : List ℕ} (t : Address × ℕ) (low high : ℕ) → Filling file at n a next ops args sheet → a < 256 → Takes file next (ltb a n) t
+    → low ≡ t.0.word % 256 → high ≡ t.0.word / 256
+    → Filling file at n (a + 1) t.1 (set ops a t.0.opcode) (set args a t.0.argument) (set (set sheet (2 * a) low) (2 * a + 1) high)
+fill_goes {file} {at} {n} {a} {next} {ops} {args} {sheet} t low high f h k low_is high_is =
     record {
-      ops_long = length-set ops a t.opcode ∙ f.ops_long;
-      args_long = length-set args a t.argument ∙ f.args_long;
-      sheet_long = length-set (set sheet (2 * a) t.low) (2 * a + 1) t.high ∙ length-set sheet (2 * a) t.low ∙ f.sheet_long;
+      ops_long = length-set ops a t.0.opcode ∙ f.ops_long;
+      args_long = length-set args a t.0.argument ∙ f.args_long;
+      sheet_long = length-set (set sheet (2 * a) low) (2 * a + 1) high ∙ length-set sheet (2 * a) low ∙ f.sheet_long;
       filled = λ xs rest e.
           let p = f.filled xs rest e in
           let u = turn file n xs rest a next t p.ahead k in
@@ -126,8 +126,8 @@ fill_goes {file} {at} {n} {a} {next} {ops} {args} {sheet} t f h k =
             ahead = u.ahead;
             opcodes = fill_put p.opcodes (omega arith) (u.is.opcode ∙ sym (column_at (opcode_in xs) 0 256 a a h (omega arith)));
             arguments = fill_put p.arguments (omega arith) (u.is.argument ∙ sym (column_at (argument_in xs) 0 256 a a h (omega arith)));
-            words = fill_two a p.words (omega arith) (u.is.low ∙ sym (sheet_low (word_in xs) 0 256 a (2 * a) a h (omega arith) refl))
-                (u.is.high ∙ sym (sheet_high (word_in xs) 0 256 a (2 * a + 1) a h (omega arith) refl));
+            words = fill_two a p.words (omega arith) (low_is ∙ ap (λ (m : ℕ). m % 256) u.is.word ∙ sym (sheet_low (word_in xs) 0 256 a (2 * a) a h (omega arith) refl))
+                (high_is ∙ ap (λ (m : ℕ). m / 256) u.is.word ∙ sym (sheet_high (word_in xs) 0 256 a (2 * a + 1) a h (omega arith) refl));
           };
     }
 

@@ -1,4 +1,3 @@
 pub mod AddressesFilled
 pub mod ListFilled
 pub mod Outcomes
-pub mod Taking

@@ -18,7 +18,6 @@ use Rattle.groups.proofs.Rows.{row_ahead, none_ahead, field_of}
 use Rattle.groups.proofs.Fields.{InFields}
 use Rattle.files.specs.File.{byte_field, byte_fields}
 use Rattle.opening.specs.internal.Fills.{ByteIs, TakesByte, FillsBytes}
-use Rattle.opening.specs.declared.Byte.{Byte}
 
 pub record ListTo (file : List ℕ) (m : ℕ) (rs rest : List ℕ) (i next : ℕ) (list : List ℕ) : Type 0 where
   pub ahead : numbers_in (byte_fields (m - i)) (drop next file) ≡ got (drop i rs) rest
@@ -32,17 +31,17 @@ pub list_starts : (file : List ℕ) (at m : ℕ) (list : List ℕ) → length li
 list_starts file at m list l =
     record { long = l; filled = λ rs rest e. record { ahead = rw (sub-zero m) e; bytes = fill_start (l ∙ sym (padded_long 128 rs)) } }
 
-record Turn (file : List ℕ) (m : ℕ) (rs rest : List ℕ) (i : ℕ) (t : Byte) : Type 0 where
-  value : t.value ≡ get_or rs i 0
-  ahead : numbers_in (byte_fields (m - (i + 1))) (drop t.next file) ≡ got (drop (i + 1) rs) rest
+record Turn (file : List ℕ) (m : ℕ) (rs rest : List ℕ) (i : ℕ) (t : ℕ × ℕ) : Type 0 where
+  value : t.0 ≡ get_or rs i 0
+  ahead : numbers_in (byte_fields (m - (i + 1))) (drop t.1 file) ≡ got (drop (i + 1) rs) rest
 
-turn_put : (file : List ℕ) (m : ℕ) (rs rest : List ℕ) (i : ℕ) (t : Byte) {v : ℕ} {mid : List ℕ} → ByteIs file v mid t → get_or rs (i + 0) 0 ≡ v
+turn_put : (file : List ℕ) (m : ℕ) (rs rest : List ℕ) (i : ℕ) (t : ℕ × ℕ) {v : ℕ} {mid : List ℕ} → ByteIs file v mid t → get_or rs (i + 0) 0 ≡ v
     → numbers_in (byte_fields (m - (i + 1))) mid ≡ got (drop (i + 1) rs) rest → Turn file m rs rest i t
 turn_put file m rs rest i t b e r =
     let here : get_or rs i 0 ≡ get_or rs (i + 0) 0 = ap (λ (j : ℕ). get_or rs j 0) (omega arith) in
     record { value = b.value ∙ sym (here ∙ e); ahead = ap (numbers_in (byte_fields (m - (i + 1)))) b.next ∙ r }
 
-module _ (file : List ℕ) (m : ℕ) (rs rest : List ℕ) (i next : ℕ) (t : Byte) (e : numbers_in (byte_fields (m - i)) (drop next file) ≡ got (drop i rs) rest) where
+module _ (file : List ℕ) (m : ℕ) (rs rest : List ℕ) (i next : ℕ) (t : ℕ × ℕ) (e : numbers_in (byte_fields (m - i)) (drop next file) ≡ got (drop i rs) rest) where
   turn_one : (zs mid : List ℕ) → InFields (byte_fields 1) zs → numbers_in (byte_fields 1) (drop next file) ≡ got zs mid → ((d : ℕ) → d < 1 → get_or rs (i + d) 0 ≡ get_or zs d 0)
       → numbers_in (byte_fields (m - (i + 1))) mid ≡ got (drop (i + 1) rs) rest → TakesByte file next true t → Turn file m rs rest i t
   turn_one (v ∷ []) mid f r h o k = turn_put file m rs rest i t (k.some refl v mid (field_of byte_field (drop next file) r)) (h 0 (omega arith)) o
@@ -66,11 +65,11 @@ module _ (file : List ℕ) (m : ℕ) (rs rest : List ℕ) (i next : ℕ) (t : By
       (λ s. turn_some (ltb-true i m s) (rw s at k))
       (λ s. turn_none (ltb-false i m s) (rw s at k))
 
-pub list_goes : {file : List ℕ} {at m i next : ℕ} {list : List ℕ} (t : Byte) → ListFilling file at m i next list → i < 128 → TakesByte file next (ltb i m) t
-    → ListFilling file at m (i + 1) t.next (set list i t.value)
+pub list_goes : {file : List ℕ} {at m i next : ℕ} {list : List ℕ} (t : ℕ × ℕ) → ListFilling file at m i next list → i < 128 → TakesByte file next (ltb i m) t
+    → ListFilling file at m (i + 1) t.1 (set list i t.0)
 list_goes {file} {at} {m} {i} {next} {list} t f h k =
     record {
-      long = length-set list i t.value ∙ f.long;
+      long = length-set list i t.0 ∙ f.long;
       filled = λ rs rest e.
           let p = f.filled rs rest e in
           let u = turn file m rs rest i next t p.ahead k in

@@ -7,6 +7,7 @@ use mathlib.Core.List.{List, []}
 use lib.ListN.{length, drop, length-drop}
 use lib.Dec.{eqb}
 use borrow.Author.Tests.{eqb-true, ne_eqb, not-false}
+use Rattle.std.specs.Prelude.{Ok, Err}
 use Rattle.slices.specs.Checks.{first_broken}
 use Rattle.slices.specs.Parts.{padded}
 use Rattle.slices.proofs.Bools.{both}
@@ -16,19 +17,10 @@ use Rattle.rules.specs.Grounds.{buffer_checks, max_list_size}
 use Rattle.rules.specs.Sheet.{Listing, listing, routines}
 use Rattle.files.specs.Calls.{open_fault, outcome, opened_to, delivered, opened_of}
 use Rattle.files.specs.File.{byte_fields, listing_of, listing_in}
-use Rattle.files.specs.declared.Opened.TheVariants as opened
 use Rattle.files.proofs.Numbers.{list_length}
 use Rattle.files.proofs.Promised.{numbered_open}
-use Rattle.checking.specs.internal.Judges.{Passed, Stopped, Judges}
-use Rattle.checking.specs.declared.judging.Judged.{Judged}
-use Rattle.checking.specs.declared.judging.Judged.TheVariants as judged
+use Rattle.checking.specs.internal.Judges.{Passed, Stopped}
 use Rattle.opening.specs.internal.Fills.{FillsAddresses, FillsBytes}
-
-pub good_of : (file : List ℕ) {r : Judged} {n addresses k list : ℕ} → Judges file r → r ≡ judged.Good n addresses k list → Passed file n addresses k list
-good_of file h e = rw e at h
-
-pub stopped_of : (file : List ℕ) {r : Judged} {q p : ℕ} → Judges file r → r ≡ judged.Refused q p → Stopped file q p
-stopped_of file h e = rw e at h
 
 -- the lengths of the four buffers
 pub record BufferSizes (B : Listing) : Type 0 where
@@ -49,7 +41,7 @@ sized B e z =
     }
 
 module _ (file : List ℕ) (B : Listing) {q : ℕ} (e : q ≡ first_broken (buffer_checks B)) where
-  pub refuse_sizes : (q ≡ 0 → ⊥) → outcome (opened.Refused q 0) B ≡ opened_of file B
+  pub refuse_sizes : (q ≡ 0 → ⊥) → outcome (Err (q, 0)) B ≡ opened_of file B
   unfolding opened_of open_fault
   refuse_sizes n = rw (← e, ne_eqb q 0 n)
 
@@ -58,16 +50,16 @@ module _ (file : List ℕ) (B : Listing) {q : ℕ} (e : q ≡ first_broken (buff
     unfolding opened_of open_fault
     read_it = rw (← e, z)
 
-    pub refuse_file : {r p : ℕ} → Stopped file r p → outcome (opened.Refused r p) B ≡ opened_of file B
+    pub refuse_file : {r p : ℕ} → Stopped file r p → outcome (Err (r, p)) B ≡ opened_of file B
     unfolding delivered
     refuse_file {r} {p} s =
         let l = length-drop p file in
         let w = s.within in
         let place : p ≡ length file - length (drop p file) = omega arith in
-        ap (λ (i : ℕ). outcome (opened.Refused r i) B) place ∙ sym (read_it ∙ rw s.stops)
+        ap (λ (i : ℕ). outcome (Err (r, i)) B) place ∙ sym (read_it ∙ rw s.stops)
 
     pub opened_whole : {n addresses k list : ℕ} (o g s l : List ℕ) → Passed file n addresses k list → FillsAddresses file addresses n o g s → FillsBytes file list (2 * k) l
-        → outcome (opened.Routines k) (listing o g s l) ≡ opened_of file B
+        → outcome (Ok k) (listing o g s l) ≡ opened_of file B
     unfolding delivered
     opened_whole {n} {addresses} {k} {list} o g s l p fills bytes =
         whole o g s l p.numbers p.bytes k (fills p.numbers p.behind p.numbers_at p.bytes) size (bytes p.bytes [] p.bytes_at)
@@ -80,8 +72,8 @@ module _ (file : List ℕ) (B : Listing) {q : ℕ} (e : q ≡ first_broken (buff
         count o g s rs k n = unfold routines in (omega arith)
 
         whole : (o g s l xs rs : List ℕ) (k : ℕ) → listing o g s rs ≡ listing_of xs rs → length rs ≡ 2 * k → l ≡ padded max_list_size rs
-            → outcome (opened.Routines k) (listing o g s l) ≡ opened_to (listing_of xs rs)
+            → outcome (Ok k) (listing o g s l) ≡ opened_to (listing_of xs rs)
         whole o g s l xs rs k e n q =
-            ap (λ (x : List ℕ). outcome (opened.Routines k) (listing o g s x)) q
-            ∙ ap (λ (x : ℕ). outcome (opened.Routines x) (listing o g s (padded max_list_size rs))) (count o g s rs k n)
+            ap (λ (x : List ℕ). outcome (Ok k) (listing o g s x)) q
+            ∙ ap (λ (x : ℕ). outcome (Ok x) (listing o g s (padded max_list_size rs))) (count o g s rs k n)
             ∙ ap opened_to e

@@ -7,56 +7,29 @@ ghost use Rattle.slices.specs.Sizes.{bank_size};
 ghost use Rattle.rules.specs.Grounds.{sheet_size, max_list_size};
 ghost use Rattle.rules.specs.Sheet.{listing};
 ghost use Rattle.files.specs.Calls.{outcome, opened_of};
+ghost use Rattle.files.specs.Faults.{opened_as};
 ghost use Rattle.opening.specs.internal.Fills.{Takes, TakesByte, FillsAddresses, FillsBytes};
 
-use checking::judging::{Judged, judge};
-use checking::reading::{Address, MAX_BYTE, read_address};
-use files::Opened;
-use groups::{Number, read_field};
+use checking::judging::judge;
+use checking::reading::{Address, read_address, read_byte};
+use files::OpeningFault;
 use rules::MAX_LIST_SIZE;
 use sheets::buffers::buffer_sizes;
 use slices::BANK_SIZE;
 
-// The four bytes of an address and the place behind its numbers.
-#[derive(Clone, Copy)]
-pub struct Taken {
-    pub opcode: u8,
-    pub argument: u8,
-    pub low: u8,
-    pub high: u8,
-    pub next: usize,
-}
-
-// The address at a place, where there are more; else a blank one.
-fn take_address(file: &[u8], at: usize, more: bool) -> Taken
+// The address at a place and the place behind it, where there are more; else a blank one.
+fn take_address(file: &[u8], at: usize, more: bool) -> (Address, usize)
     ensures { Takes file.now at more result }
 {
+    let blank = Address {
+        opcode: 0,
+        argument: 0,
+        word: 0,
+    };
     if !more {
-        return Taken {
-            opcode: 0,
-            argument: 0,
-            low: 0,
-            high: 0,
-            next: at,
-        };
+        return (blank, at);
     }
-    let read = read_address(file, at);
-    match read {
-        Address::Refused(_, _) => Taken {
-            opcode: 0,
-            argument: 0,
-            low: 0,
-            high: 0,
-            next: at,
-        },
-        Address::Numbers(opcode, argument, word, next) => Taken {
-            opcode: (opcode % 256) as u8,
-            argument: (argument % 256) as u8,
-            low: (word % 256) as u8,
-            high: (word / 256 % 256) as u8,
-            next: next,
-        },
-    }
+    read_address(file, at).unwrap_or((blank, at))
 }
 
 // The numbers of n addresses at a place are written into both banks and the sheet, and 0 for every later address.
@@ -72,40 +45,25 @@ fn fill_addresses(
     ensures { FillsAddresses file.now at n opcodes.new arguments.new sheet.new }
 {
     let mut next = at;
-    let mut a: usize = 0;
-    while a < BANK_SIZE {
-        let taken = take_address(file, next, a < n);
-        opcodes[a] = taken.opcode;
-        arguments[a] = taken.argument;
-        sheet[2 * a] = taken.low;
-        sheet[2 * a + 1] = taken.high;
-        next = taken.next;
-        a += 1;
+    for a in 0..BANK_SIZE {
+        let (address, behind) = take_address(file, next, a < n);
+        let [low, high] = address.word.to_le_bytes();
+        opcodes[a] = address.opcode;
+        arguments[a] = address.argument;
+        sheet[2 * a] = low;
+        sheet[2 * a + 1] = high;
+        next = behind;
     }
 }
 
-// A byte, and the place behind its number.
-#[derive(Clone, Copy)]
-pub struct Byte {
-    pub value: u8,
-    pub next: usize,
-}
-
-// The byte at a place, where there are more; else 0.
-fn take_byte(file: &[u8], at: usize, more: bool) -> Byte
+// The byte at a place and the place behind it, where there are more; else 0.
+fn take_byte(file: &[u8], at: usize, more: bool) -> (u8, usize)
     ensures { TakesByte file.now at more result }
 {
     if !more {
-        return Byte { value: 0, next: at };
+        return (0, at);
     }
-    let read = read_field(file, at, 0, MAX_BYTE);
-    match read {
-        Number::Refused(_, _) => Byte { value: 0, next: at },
-        Number::Value(value, next) => Byte {
-            value: (value % 256) as u8,
-            next: next,
-        },
-    }
+    read_byte(file, at).unwrap_or((0, at))
 }
 
 // m bytes at a place are written into the list buffer, and 0 behind them.
@@ -114,38 +72,38 @@ fn fill_bytes(file: &[u8], at: usize, m: usize, list: &mut [u8])
     ensures { FillsBytes file.now at m list.new }
 {
     let mut next = at;
-    let mut i: usize = 0;
-    while i < MAX_LIST_SIZE {
-        let taken = take_byte(file, next, i < m);
-        list[i] = taken.value;
-        next = taken.next;
-        i += 1;
+    for i in 0..MAX_LIST_SIZE {
+        let (byte, behind) = take_byte(file, next, i < m);
+        list[i] = byte;
+        next = behind;
     }
 }
 
 // The number of routines of a file that opens, with its listing in the four buffers, all of each;
-// or a refusal's number and its place in the file, with all four as they were.
+// or a refusal, with all four as they were.
 pub fn open_file(
     file: &[u8],
     opcodes: &mut [u8],
     arguments: &mut [u8],
     sheet: &mut [u8],
     list: &mut [u8],
-) -> Opened
-    ensures { outcome result (listing opcodes.new arguments.new sheet.new list.new)
+) -> Result<usize, OpeningFault>
+    ensures { outcome (opened_as result) (listing opcodes.new arguments.new sheet.new list.new)
         ≡ opened_of file.now (listing opcodes.old arguments.old sheet.old list.old) }
 {
     let fault = buffer_sizes(opcodes, arguments, sheet, list);
     if fault != 0 {
-        return Opened::Refused(fault, 0);
+        return Err(OpeningFault::Length(fault));
     }
-    let judged = judge(file);
-    match judged {
-        Judged::Refused(q, place) => Opened::Refused(q, place),
-        Judged::Good(n, addresses, k, routines) => {
-            fill_addresses(file, addresses, n, opcodes, arguments, sheet);
-            fill_bytes(file, routines, 2 * k, list);
-            Opened::Routines(k)
-        }
-    }
+    let contents = judge(file)?;
+    fill_addresses(
+        file,
+        contents.addresses,
+        contents.n,
+        opcodes,
+        arguments,
+        sheet,
+    );
+    fill_bytes(file, contents.list, 2 * contents.routines, list);
+    Ok(contents.routines)
 }

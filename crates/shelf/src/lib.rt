@@ -2,10 +2,11 @@
 #![tactic(auto)]
 
 ghost use Rattle.std.specs.Prelude.{◌≡◌};
+ghost use Rattle.files.specs.Faults.{shelved_as, opened_as};
 ghost use Rattle.rules.specs.Sheet.{listing};
 ghost use Rattle.shelf.specs.Exported.{shelved_numbers, opened_numbers, ShelvedAs, OpenedAs};
 
-use files::{Opened, Shelved};
+use files::{OpeningFault, ShelvingFault};
 
 // The writer's answer: 0 and the file's length, or the number of a refusal and 0.
 #[repr(C)]
@@ -18,23 +19,27 @@ pub struct ShelvedNumbers(pub u8, pub usize);
 #[derive(Clone, Copy)]
 pub struct OpenedNumbers(pub u8, pub usize);
 
-// The writer's answer in numbers.
-fn shelved_numbers(answer: Shelved) -> ShelvedNumbers
-    ensures { result ≡ shelved_numbers answer }
-{
-    match answer {
-        Shelved::Length(n) => ShelvedNumbers(0, n),
-        Shelved::Refused(q) => ShelvedNumbers(q, 0),
+impl From<Result<usize, ShelvingFault>> for ShelvedNumbers {
+    ghost from_gives = { λ answer numbers. numbers ≡ shelved_numbers (shelved_as answer) };
+
+    // The writer's answer in numbers.
+    fn from(answer: Result<usize, ShelvingFault>) -> ShelvedNumbers {
+        match answer {
+            Ok(n) => ShelvedNumbers(0, n),
+            Err(fault) => ShelvedNumbers(u8::from(fault), 0),
+        }
     }
 }
 
-// The opener's answer in numbers.
-fn opened_numbers(answer: Opened) -> OpenedNumbers
-    ensures { result ≡ opened_numbers answer }
-{
-    match answer {
-        Opened::Routines(k) => OpenedNumbers(0, k),
-        Opened::Refused(q, at) => OpenedNumbers(q, at),
+impl From<Result<usize, OpeningFault>> for OpenedNumbers {
+    ghost from_gives = { λ answer numbers. numbers ≡ opened_numbers (opened_as answer) };
+
+    // The opener's answer in numbers.
+    fn from(answer: Result<usize, OpeningFault>) -> OpenedNumbers {
+        match answer {
+            Ok(k) => OpenedNumbers(0, k),
+            Err(fault) => OpenedNumbers(u8::from(fault), fault.place()),
+        }
     }
 }
 
@@ -49,7 +54,7 @@ pub fn cesca_shelve(
 ) -> ShelvedNumbers
     ensures { ShelvedAs (listing opcodes.now arguments.now sheet.now list.now) out.old result out.new }
 {
-    shelved_numbers(shelving::shelve(opcodes, arguments, sheet, list, out))
+    ShelvedNumbers::from(shelving::shelve(opcodes, arguments, sheet, list, out))
 }
 
 // 0 and the number of routines of a file that opens, with its listing in the four buffers, all of
@@ -63,5 +68,5 @@ pub fn cesca_open(
 ) -> OpenedNumbers
     ensures { OpenedAs file.now (listing opcodes.old arguments.old sheet.old list.old) result (listing opcodes.new arguments.new sheet.new list.new) }
 {
-    opened_numbers(opening::open_file(file, opcodes, arguments, sheet, list))
+    OpenedNumbers::from(opening::open_file(file, opcodes, arguments, sheet, list))
 }

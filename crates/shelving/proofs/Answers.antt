@@ -8,6 +8,7 @@ use mathlib.Core.List.{List, [], ◌∷◌, ◌++◌}
 use lib.Dec.{ltb}
 use lib.ListN.{length, get_or, drop}
 use borrow.Author.Tests.{lt-ltb, ne_eqb}
+use Rattle.std.specs.Prelude.{Ok, Err}
 use Rattle.slices.specs.Checks.{Check, check, first_broken, NoneBroken}
 use Rattle.slices.proofs.Checks.{Numbered, none_broken}
 use Rattle.groups.specs.Groups.{groups_of, row_of}
@@ -20,7 +21,6 @@ use Rattle.rules.proofs.Scanning.{or_hit, or_pass, first_append}
 use Rattle.files.specs.Calls.{file_room, write_fault, written, stored, shelved_of}
 use Rattle.files.specs.File.{blank, used_below, least_of, address_numbers, numbers_of, file_of}
 use Rattle.files.specs.Promise.{Passes}
-use Rattle.files.specs.declared.Shelved.TheVariants as shelved
 use Rattle.files.proofs.Promised.{nothing_wrong}
 use Rattle.files.proofs.Short.{file_short}
 use Rattle.files.proofs.Sizes.{good_sizes}
@@ -58,12 +58,12 @@ file_put o g s l n p {q} {r} {t} {u} e a b c d =
     ∙ ap (λ (m : ℕ). write_of (row_of (numbers_of L m)) p) least
 
 pub file_stored : (L : Listing) (before after : List ℕ) (n : ℕ) → Passes L → file_room ≤ length before → page after n ≡ write_of (file_of L) (page before 0)
-    → written (shelved.Length n) after ≡ stored (file_of L) before
+    → written (Ok n) after ≡ stored (file_of L) before
 unfolding stored
 file_stored L before after n ok room e =
     let short = file_short L ok in
     let q : page after n ≡ page (file_of L ++ drop (length (file_of L)) before) (length (file_of L)) = e ∙ write_whole (file_of L) before (omega arith) in
-    ap (λ (p : Page). written (shelved.Length p.at) p.bytes) q
+    ap (λ (p : Page). written (Ok p.at) p.bytes) q
 
 -- ---- the writer's answers
 
@@ -75,15 +75,15 @@ module _ (L : Listing) (out : List ℕ) where
   abbrev room : List Check
   room = check 32 0 (ltb (length out) file_room) ∷ []
 
-  faulty : {q : ℕ} → q ≡ write_fault L out → (q ≡ 0 → ⊥) → written (shelved.Refused q) out ≡ shelved_of L out
+  faulty : {q : ℕ} → q ≡ write_fault L out → (q ≡ 0 → ⊥) → written (Err q) out ≡ shelved_of L out
   unfolding shelved_of
   faulty {q} e n = rw (← e, ne_eqb q 0 n)
 
-  pub refuse_sizes : {q : ℕ} → q ≡ first_broken (listing_checks L) → (q ≡ 0 → ⊥) → written (shelved.Refused q) out ≡ shelved_of L out
+  pub refuse_sizes : {q : ℕ} → q ≡ first_broken (listing_checks L) → (q ≡ 0 → ⊥) → written (Err q) out ≡ shelved_of L out
   unfolding write_fault
   refuse_sizes e n = faulty (or_hit _ e n ∙ first_append (listing_checks L) room numbered_sizes) n
 
-  pub refuse_room : {q : ℕ} → q ≡ first_broken (listing_checks L) → q ≡ 0 → length out < file_room → written (shelved.Refused 32) out ≡ shelved_of L out
+  pub refuse_room : {q : ℕ} → q ≡ first_broken (listing_checks L) → q ≡ 0 → length out < file_room → written (Err 32) out ≡ shelved_of L out
   unfolding write_fault first_broken
   refuse_room e z h =
       let short : 32 ≡ first_broken room = rw (lt-ltb (length out) file_room h) in
@@ -93,7 +93,7 @@ module _ (L : Listing) (out : List ℕ) where
   sized e z = none_broken (listing_checks L) numbered_sizes (sym e ∙ z)
 
   pub shelved_whole : Passes L → file_room ≤ length out → (after : List ℕ) (n : ℕ) → page after n ≡ write_of (file_of L) (page out 0)
-      → written (shelved.Length n) after ≡ shelved_of L out
+      → written (Ok n) after ≡ shelved_of L out
   unfolding shelved_of
   shelved_whole ok room after n e = rw (nothing_wrong L ok out room) (file_stored L out after n ok room e)
 

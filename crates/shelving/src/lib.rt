@@ -8,21 +8,22 @@ ghost use Rattle.pages.specs.Page.{page, write_of};
 ghost use Rattle.rules.specs.Grounds.{max_list_size};
 ghost use Rattle.rules.specs.Sheet.{listing, word};
 ghost use Rattle.files.specs.Calls.{written, shelved_of};
+ghost use Rattle.files.specs.Faults.{shelved_as};
 ghost use Rattle.files.specs.File.{blank, least_of, address_numbers, file_of};
 
-use files::{FILE_ROOM, Shelved};
+use files::{FILE_ROOM, ShelvingFault};
 use groups::put_number;
 use sheets::sizes::listing_sizes;
 use slices::{BANK_SIZE, byte_at};
 
 // The sheet word of an address.
-fn word_at(sheet: &[u8], a: usize) -> u32
+fn word_at(sheet: &[u8], a: usize) -> u16
     requires { a < 256 }
     ensures { result ≡ word (listing [] [] sheet.now []) a }
 {
     let low = byte_at(sheet, 2 * a);
     let high = byte_at(sheet, 2 * a + 1);
-    (low as u32) + 256 * (high as u32)
+    u16::from_le_bytes([low, high])
 }
 
 // Whether opcode, argument and sheet word of an address are 0.
@@ -40,12 +41,10 @@ fn is_blank(opcodes: &[u8], arguments: &[u8], sheet: &[u8], a: usize) -> bool
 fn least(opcodes: &[u8], arguments: &[u8], sheet: &[u8]) -> usize
     ensures { result ≡ least_of (listing opcodes.now arguments.now sheet.now []) }
 {
-    let mut n: usize = BANK_SIZE;
-    while 0 < n {
-        if !is_blank(opcodes, arguments, sheet, n - 1) {
-            return n;
+    for a in (0..BANK_SIZE).rev() {
+        if !is_blank(opcodes, arguments, sheet, a) {
+            return a + 1;
         }
-        n -= 1;
     }
     0
 }
@@ -65,9 +64,9 @@ fn put_address(
     let opcode = byte_at(opcodes, a);
     let argument = byte_at(arguments, a);
     let word = word_at(sheet, a);
-    let after_opcode = put_number(out, at, opcode as u32);
-    let after_argument = put_number(out, after_opcode, argument as u32);
-    put_number(out, after_argument, word)
+    let after_opcode = put_number(out, at, u32::from(opcode));
+    let after_argument = put_number(out, after_opcode, u32::from(argument));
+    put_number(out, after_argument, u32::from(word))
 }
 
 // The numbers of the first n addresses are written from a place on; the place after them.
@@ -83,10 +82,8 @@ fn put_addresses(
     ensures { page out.new result ≡ write_of (row_of (address_numbers (listing opcodes.now arguments.now sheet.now []) 0 n)) (page out.old at) }
 {
     let mut next = at;
-    let mut a: usize = 0;
-    while a < n {
+    for a in 0..n {
         next = put_address(opcodes, arguments, sheet, out, next, a);
-        a += 1;
     }
     next
 }
@@ -96,10 +93,8 @@ fn put_bytes(bytes: &[u8], out: &mut [u8], at: usize) -> usize
     ensures { page out.new result ≡ write_of (row_of bytes.now) (page out.old at) }
 {
     let mut next = at;
-    let mut i: usize = 0;
-    while i < bytes.len() {
-        next = put_number(out, next, bytes[i] as u32);
-        i += 1;
+    for byte in bytes {
+        next = put_number(out, next, u32::from(*byte));
     }
     next
 }
@@ -116,23 +111,23 @@ fn put_file(opcodes: &[u8], arguments: &[u8], sheet: &[u8], list: &[u8], out: &m
     put_bytes(list, out, after_count)
 }
 
-// The length of the file of a listing, which now stands in the buffer's front; or the number of a
-// refusal, which leaves the buffer. Room is asked for the longest file, whatever this one's length.
+// The length of the file of a listing, which now stands in the buffer's front; or a refusal, which
+// leaves the buffer. Room is asked for the longest file, whatever this one's length.
 pub fn shelve(
     opcodes: &[u8],
     arguments: &[u8],
     sheet: &[u8],
     list: &[u8],
     out: &mut [u8],
-) -> Shelved
-    ensures { written result out.new ≡ shelved_of (listing opcodes.now arguments.now sheet.now list.now) out.old }
+) -> Result<usize, ShelvingFault>
+    ensures { written (shelved_as result) out.new ≡ shelved_of (listing opcodes.now arguments.now sheet.now list.now) out.old }
 {
     let fault = listing_sizes(opcodes, arguments, sheet, list);
     if fault != 0 {
-        return Shelved::Refused(fault);
+        return Err(ShelvingFault::Length(fault));
     }
     if out.len() < FILE_ROOM {
-        return Shelved::Refused(32);
+        return Err(ShelvingFault::NoRoom);
     }
-    Shelved::Length(put_file(opcodes, arguments, sheet, list, out))
+    Ok(put_file(opcodes, arguments, sheet, list, out))
 }

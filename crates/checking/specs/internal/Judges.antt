@@ -1,42 +1,27 @@
 -- What the judges answer of a file, in the terms of the definitions.
 -- Assumes nothing.
-use Rattle.std.specs.Prelude.{ℕ, ◌*◌, ◌≤◌, ◌≡◌, Bool, false, cond, ◌&&◌, List, [], ◌∷◌, length, drop, eqb}
+use Rattle.std.specs.Prelude.{ℕ, ◌*◌, ◌≤◌, ◌≡◌, Bool, false, cond, ◌&&◌, List, [], ◌∷◌, length, drop, eqb, Result, Ok, Err}
+use Rattle.groups.specs.Faults.{fault_number}
 use Rattle.groups.specs.Fields.{Read, got, refused, and_then, field_in, numbers_in}
+use Rattle.groups.specs.declared.Refusal.{Refusal}
 use Rattle.files.specs.File.{count_field, address_fields, byte_fields, listing_of, listing_in}
 use Rattle.checking.specs.declared.reading.Address.{Address}
-use Rattle.checking.specs.declared.reading.Address.TheVariants as address
-use Rattle.checking.specs.declared.judging.Walk.{Walk}
-use Rattle.checking.specs.declared.judging.Walk.TheVariants as walk
-use Rattle.checking.specs.declared.judging.End.{End}
-use Rattle.checking.specs.declared.judging.End.TheVariants as end
-use Rattle.checking.specs.declared.judging.Judged.{Judged}
-use Rattle.checking.specs.declared.judging.Judged.TheVariants as judged
+use Rattle.checking.specs.declared.judging.Contents.{Contents}
 
--- ---- what each answer says of the file that was read, and the place that it gives
+-- ---- what an answer says of the file that was read
 
-abbrev pub address_by : List ℕ → Address → Read (List ℕ)
-address_by file (address.Numbers o g w next) = got (o ∷ g ∷ w ∷ []) (drop next file)
-address_by file (address.Refused q at) = refused q (drop at file)
+abbrev pub address_by : List ℕ → Result (Address × ℕ) Refusal → Read (List ℕ)
+address_by file (Ok r) = got (r.0.opcode ∷ r.0.argument ∷ r.0.word ∷ []) (drop r.1 file)
+address_by file (Err r) = refused (fault_number r.fault) (drop r.at file)
 
-abbrev pub address_place : Address → ℕ
-address_place (address.Numbers o g w next) = next
-address_place (address.Refused q at) = at
+-- where bytes end
+abbrev pub end_by : List ℕ → Result ℕ Refusal → Read ℕ
+end_by file (Ok next) = got 0 (drop next file)
+end_by file (Err r) = refused (fault_number r.fault) (drop r.at file)
 
-abbrev pub walk_by : List ℕ → Walk → Read Bool
-walk_by file (walk.On next blank) = got blank (drop next file)
-walk_by file (walk.Refused q at) = refused q (drop at file)
-
-abbrev pub walk_place : Walk → ℕ
-walk_place (walk.On next blank) = next
-walk_place (walk.Refused q at) = at
-
-abbrev pub end_by : List ℕ → End → Read ℕ
-end_by file (end.At next) = got 0 (drop next file)
-end_by file (end.Refused q at) = refused q (drop at file)
-
-abbrev pub end_place : End → ℕ
-end_place (end.At next) = next
-end_place (end.Refused q at) = at
+abbrev pub end_place : Result ℕ Refusal → ℕ
+end_place (Ok next) = next
+end_place (Err r) = r.at
 
 -- ---- what they are to answer
 
@@ -91,6 +76,6 @@ pub record Stopped (file : List ℕ) (q at : ℕ) : Type 0 where
   pub stops : listing_in file ≡ refused q (drop at file)
   pub within : at ≤ length file
 
-abbrev pub Judges : List ℕ → Judged → Type 0
-Judges file (judged.Good n addresses k list) = Passed file n addresses k list
-Judges file (judged.Refused q at) = Stopped file q at
+abbrev pub Judges : List ℕ → Result Contents Refusal → Type 0
+Judges file (Ok c) = Passed file c.n c.addresses c.routines c.list
+Judges file (Err r) = Stopped file (fault_number r.fault) r.at

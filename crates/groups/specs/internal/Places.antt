@@ -1,19 +1,19 @@
 -- Numbers by places in a file, as the code reads them.
 -- Assumes nothing.
-use Rattle.std.specs.Prelude.{ℕ, suc, ◌+◌, ◌*◌, ◌%◌, ◌≤◌, ◌≡◌, cond, List, [], ◌∷◌, length, drop, ltb}
+use Rattle.std.specs.Prelude.{ℕ, suc, ◌+◌, ◌*◌, ◌%◌, ◌≤◌, ◌<◌, ◌≡◌, cond, List, [], ◌∷◌, length, drop, ltb, Option, Some, None, Result, Ok, Err}
+use Rattle.groups.specs.Faults.{fault_number}
 use Rattle.groups.specs.Fields.{Read, got, refused}
-use Rattle.groups.specs.declared.Number.{Number}
-use Rattle.groups.specs.declared.Number.TheVariants as number
+use Rattle.groups.specs.declared.Refusal.{Refusal}
 
--- what an answer says of the file that was read
-abbrev pub read_by : List ℕ → Number → Read ℕ
-read_by file (number.Value v next) = got v (drop next file)
-read_by file (number.Refused q at) = refused q (drop at file)
+-- what an answer says of the file that was read: a value and the bytes behind it, or a refusal
+abbrev pub read_by : {V : Type 0} → List ℕ → Result (V × ℕ) Refusal → Read V
+read_by file (Ok r) = got r.0 (drop r.1 file)
+read_by file (Err r) = refused (fault_number r.fault) (drop r.at file)
 
 -- the place that it gives
-abbrev pub place_of : Number → ℕ
-place_of (number.Value v next) = next
-place_of (number.Refused q at) = at
+abbrev pub place_of : {V : Type 0} → Result (V × ℕ) Refusal → ℕ
+place_of (Ok r) = r.1
+place_of (Err r) = r.at
 
 -- a file read from a place on, by an answer and the place that it gives
 pub record ReadsAs {A : Type 0} (file : List ℕ) (at : ℕ) (meant answer : Read A) (place : ℕ) : Type 0 where
@@ -29,3 +29,8 @@ last_of (b ∷ bs) = cond (ltb b 128) 0 (suc (last_of bs))
 unfoldable pub value_in : List ℕ → ℕ
 value_in [] = 0
 value_in (b ∷ bs) = cond (ltb b 128) b (b % 128 + 128 * value_in bs)
+
+-- the last group of the number at a place is found; none where it is cut off
+abbrev pub EndsAt : (file : List ℕ) (at : ℕ) → Option ℕ → Type 0
+EndsAt file at (Some i) = (i ≡ at + last_of (drop at file)) × (i < length file)
+EndsAt file at None = length file ≤ at + last_of (drop at file)

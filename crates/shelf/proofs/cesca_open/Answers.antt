@@ -8,4 +8,4 @@ use Rattle.shelf.proofs.cesca_open.Goals as goal
 pub returns : goal.returns
 returns c =
     let e = c.open_file.ensures in
-    record { answers = c.opened_numbers.ensures ∙ ap (λ (o : Outcome). opened_numbers o.answer) e; leaves = ap (λ (o : Outcome). o.buffers) e; promise = promised }
+    record { answers = c.from.ensures ∙ ap (λ (o : Outcome). opened_numbers o.answer) e; leaves = ap (λ (o : Outcome). o.buffers) e; promise = promised }

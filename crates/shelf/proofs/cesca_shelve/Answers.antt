@@ -8,4 +8,4 @@ use Rattle.shelf.proofs.cesca_shelve.Goals as goal
 pub returns : goal.returns
 returns c =
     let e = c.shelve.ensures in
-    record { answers = c.shelved_numbers.ensures ∙ ap (λ (w : Written). shelved_numbers w.answer) e; leaves = ap (λ (w : Written). w.out) e; promise = promised }
+    record { answers = c.from.ensures ∙ ap (λ (w : Written). shelved_numbers w.answer) e; leaves = ap (λ (w : Written). w.out) e; promise = promised }

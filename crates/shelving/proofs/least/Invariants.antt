@@ -4,8 +4,5 @@ use Rattle.rules.specs.Sheet.{listing}
 use Rattle.shelving.proofs.Counting.{Counting}
 use Rattle.shelving.proofs.least.Given as goal
 
-abbrev pub invariant-loop-n : goal.invariant-loop-n
-invariant-loop-n l = Counting (listing l.opcodes l.arguments l.sheet []) l.n
-
-abbrev pub decreases-loop-n : goal.decreases-loop-n
-decreases-loop-n l = l.n
+abbrev pub invariant-loop-a : goal.invariant-loop-a
+invariant-loop-a l = Counting (listing l.opcodes l.arguments l.sheet []) l.a

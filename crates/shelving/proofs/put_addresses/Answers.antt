@@ -1,5 +1,4 @@
 -- An address a turn: what is left, written from here, leaves the page of the whole.
-use Prim.Native.Nat.{◌-◌}
 use Rattle.shelving.proofs.RowsPut.{to_goes, to_ends}
 use Rattle.shelving.proofs.put_addresses.Goals as goal
 

@@ -1,13 +1,14 @@
 -- An address a turn: what is left, judged from here, gives the answer of the whole.
-use Prim.Native.Nat.{◌-◌}
-use Rattle.checking.proofs.Walking.{numbers_read, address_refused, walk_stops, walk_goes, walk_ends}
+use Rattle.groups.proofs.Readings.{handed_on}
+use Rattle.checking.proofs.Walking.{walk_stops, walk_goes, walk_ends}
 use Rattle.checking.proofs.judging.judge_addresses.Goals as goal
 
-pub returns-in-Refused : goal.returns-in-Refused
-returns-in-Refused c = walk_stops c.loop-a.invariant c.loop-a-test.true (address_refused _ _ c.read_address-read.ensures c.in-Refused.is)
+pub returns-in_err-address : goal.returns-in_err-address
+returns-in_err-address c =
+    rw (handed_on c.from_residual.result c.from_residual.ensures.1) (walk_stops c.loop.invariant c.loop-test.true c.in_err-address.ensures)
 
-pub loop-a-preserved : goal.loop-a-preserved
-loop-a-preserved c = walk_goes c.loop-a.invariant c.loop-a-test.true (numbers_read _ _ c.read_address-read.ensures c.in-Numbers.is)
+pub loop-preserved : goal.loop-preserved
+loop-preserved c = walk_goes c.loop.invariant c.loop-test.true c.in_ok-address.ensures
 
 pub returns : goal.returns
-returns c = walk_ends c.loop-a.invariant c.loop-a-test.false
+returns c = walk_ends c.loop.invariant c.loop-test.false
