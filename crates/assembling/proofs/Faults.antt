@@ -15,15 +15,18 @@ use Rattle.slices.proofs.Bools.{by_test}
 use Rattle.slices.proofs.Checks.{Numbered, none_broken, first_violation}
 use Rattle.labels.specs.Lines.{lines_of, word_count}
 use Rattle.labels.specs.Labels.{at_each}
-use Rattle.labels.specs.declared.Survey.{Survey}
-use Rattle.labels.specs.internal.Search.{first_line, bad_line, bad_label, Inspected, Index}
+use Rattle.labels.specs.internal.Search.{first_line, bad_line, bad_label, Surveyed, Index}
 use Rattle.words.specs.Program.{program_of, opcode_of, argument_of}
 use Rattle.words.specs.internal.Storing.{stored_in}
 use Rattle.words.proofs.Counts.{count_exact, count_over, forms_count}
 use Rattle.words.proofs.Storing.{zeros, stored_whole}
 use Rattle.assembling.specs.declared.Assembled.{Assembled}
+use Rattle.assembling.specs.declared.Refusal.{Refusal}
+use Rattle.assembling.specs.declared.Refusal.TheVariants.{BadLine}
+use Rattle.std.specs.Prelude.{Result, Ok, Err}
+use Rattle.std.specs.Result.{IsErrAnd}
 use Rattle.assembling.specs.Assemble.{assemble_checks, fault_of, answer_by, answer_of, bank_after, Assembles}
-use Rattle.assembling.specs.internal.Looking.{text_fault, Looked}
+use Rattle.assembling.specs.internal.Looking.{text_fault, Accepted, Refuses, Looked}
 
 -- a rule at each line is broken first at the first line that breaks it
 each_first : (number : ℕ) (f : List ℕ → ℕ → Bool) (ls : List (List ℕ)) (k : ℕ) (rest : List Check) → 1 ≤ k
@@ -41,17 +44,6 @@ fault_is t =
     each_first 24 _ (lines_of t) 1 _ (omega arith)
     ∙ ap (λ (n : ℕ). cond (eqb (bad_line t) 0) n (24 + 256 * bad_line t)) (each_first 25 _ (lines_of t) 1 _ (omega arith))
 
--- a fault has a number
-fault_numbered : (t : List ℕ) → text_fault t % 256 ≡ 0 → text_fault t ≡ 0
-fault_numbered t e = by_bad (bad_line t) (bad_label t) (ltb 256 (word_count (lines_of t))) (text_fault t) (fault_is t) e
-  where
-    by_bad : (bad fault : ℕ) (long : Bool) (f : ℕ) → f ≡ cond (eqb bad 0) (cond (eqb fault 0) (cond long 26 0) (25 + 256 * fault)) (24 + 256 * bad) → f % 256 ≡ 0 → f ≡ 0
-    by_bad bad fault long f q e =
-        by_test (eqb bad 0)
-        (λ a. by_test (eqb fault 0) (λ b. by_test long (λ c. absurd (omega (arith, rw (a, b, c) at q))) (λ c. rw (a, b, c) at q))
-        (λ b. absurd (omega (arith, rw (a, b) at q))))
-        (λ a. absurd (omega (arith, rw a at q)))
-
 -- an answer's number and line
 answer_told : (t : List ℕ) (number line : ℕ) {f : ℕ} → 0 < number → number < 256 → f ≡ number + 256 * line → (number, line, 0) ≡ answer_by f t
 answer_told t number line {f} some low e =
@@ -59,45 +51,39 @@ answer_told t number line {f} some low e =
     let b : f / 256 ≡ line = omega arith in
     rw (ne_eqb f 0 (λ z. omega arith), a, b)
 
-module _ {t : List ℕ} {s : Survey} {a : List ℕ} (i : Inspected t s a) where
-  pub bad_looked : {starts numbers : List ℕ} → (s.bad ≡ 0 → ⊥) → Looked t (24, s.bad, 0) a starts numbers
-  bad_looked z =
-      record {
-        answers = answer_told t 24 s.bad (omega arith) (omega arith)
-            (fault_is t ∙ rw (ne_eqb (bad_line t) 0 (λ y. z (i.bad ∙ y)), i.bad));
-        ready = λ y. absurd (omega arith);
-      }
+module _ {t : List ℕ} where
+  pub bad_looked : {k : ℕ} → k ≡ bad_line t → 0 < k → Refuses t (24, k, 0)
+  bad_looked {k} e s =
+      let f : text_fault t ≡ 24 + 256 * k = fault_is t ∙ rw (ne_eqb (bad_line t) 0 (λ z. omega (arith, e, s, z)), e) in
+      record { some = λ z. omega (arith, f, z); answers = answer_told t 24 k (omega arith) (omega arith) f }
 
-  module _ (g : s.bad ≡ 0) where
-    good : bad_line t ≡ 0
-    good = sym i.bad ∙ g
+  -- what `?` makes of a bad line
+  pub line_refused : (r : Result ℕ Refusal) {k : ℕ} (a starts numbers : List ℕ) → IsErrAnd r (λ e. e ≡ BadLine k) → Refuses t (24, k, 0) → Looked t r a starts numbers
+  line_refused (Ok n) a starts numbers h l = absurd h
+  line_refused (Err e) a starts numbers h l = rw h l
 
-    pub fault_looked : {fault : ℕ} {starts numbers : List ℕ} → fault ≡ bad_label t → (fault ≡ 0 → ⊥) → Looked t (25, fault, 0) a starts numbers
-    fault_looked {fault} e z =
-        record {
-          answers = answer_told t 25 fault (omega arith) (omega arith)
-              (fault_is t ∙ rw (eq-eqb (bad_line t) 0 good, ne_eqb (bad_label t) 0 (λ y. z (e ∙ y)), e));
-          ready = λ y. absurd (omega arith);
-        }
+  module _ {count : ℕ} {a : List ℕ} (i : Surveyed t count a) where
+    pub fault_looked : {k : ℕ} → k ≡ bad_label t → (bad_label t ≡ 0 → ⊥) → Refuses t (25, k, 0)
+    fault_looked {k} e s =
+        let f : text_fault t ≡ 25 + 256 * k = fault_is t ∙ rw (eq-eqb (bad_line t) 0 i.good, ne_eqb (bad_label t) 0 s, e) in
+        record { some = λ z. omega (arith, f, z); answers = answer_told t 25 k (omega arith) (omega arith) f }
 
-    module _ {fault : ℕ} (e : fault ≡ bad_label t) (z : fault ≡ 0) where
-      pub long_looked : {starts numbers : List ℕ} → 256 < s.words → Looked t (26, 0, 0) a starts numbers
+    module _ (z : 0 ≡ bad_label t) where
+      pub long_looked : 256 < count → Refuses t (26, 0, 0)
       long_looked h =
-          let w : 256 < word_count (lines_of t) = count_over (lines_of t) (rw (i.words g) at h) in
-          record {
-            answers = answer_told t 26 0 (omega arith) (omega arith)
-                (fault_is t ∙ rw (eq-eqb (bad_line t) 0 good, eq-eqb (bad_label t) 0 (sym e ∙ z), lt-ltb 256 (word_count (lines_of t)) w));
-            ready = λ y. absurd (omega arith);
-          }
+          let w : 256 < word_count (lines_of t) = count_over (lines_of t) (rw i.words at h) in
+          let f : text_fault t ≡ 26 + 256 * 0 =
+          fault_is t ∙ rw (eq-eqb (bad_line t) 0 i.good, eq-eqb (bad_label t) 0 (sym z), lt-ltb 256 (word_count (lines_of t)) w) in
+          record { some = λ y. omega (arith, f, y); answers = answer_told t 26 0 (omega arith) (omega arith) f }
 
-      pub good_looked : {starts numbers : List ℕ} → s.words ≤ 256 → Index t starts numbers → Looked t (0, 0, s.words) a starts numbers
+      pub good_looked : {starts numbers : List ℕ} → count ≤ 256 → Index t starts numbers → Accepted t count a starts numbers
       good_looked h x =
-          let w : s.words ≡ word_count (lines_of t) = i.words g ∙ count_exact (lines_of t) (rw (i.words g) at h) in
+          let w : count ≡ word_count (lines_of t) = i.words ∙ count_exact (lines_of t) (rw i.words at h) in
           let few : word_count (lines_of t) ≤ 256 = rw w at h in
-          let none : text_fault t ≡ 0 = fault_is t ∙ rw (eq-eqb (bad_line t) 0 good, eq-eqb (bad_label t) 0 (sym e ∙ z), le-ltb 256 (word_count (lines_of t)) few) in
           record {
-            answers = rw (none, w);
-            ready = λ _. record { good = good; few = few; noted = i.known g; index = x };
+            none = fault_is t ∙ rw (eq-eqb (bad_line t) 0 i.good, eq-eqb (bad_label t) 0 (sym z), le-ltb 256 (word_count (lines_of t)) few);
+            counted = w;
+            ready = record { good = i.good; few = few; noted = i.known; index = x };
           }
 
 -- every rule has a number
@@ -153,27 +139,21 @@ module _ (t ops args : List ℕ) where
     pub bad_arguments : (length args ≡ 256 → ⊥) → Assembles t ops args (1, 0, 0) ops args
     bad_arguments g = refused_banks (rw (eq-eqb (length ops) 256 h, ne_eqb (length args) 256 g))
 
-    module _ (g : length args ≡ 256) {r : Assembled} {a starts numbers : List ℕ} (l : Looked t r a starts numbers) where
+    module _ (g : length args ≡ 256) where
       fault_told : fault_of t ops args ≡ text_fault t
       fault_told = good_fault t ops args (rw (eq-eqb (length ops) 256 h, eq-eqb (length args) 256 g))
 
-      pub refused_text : (r.0 ≡ 0 → ⊥) → Assembles t ops args r ops args
-      refused_text z =
-          let some : text_fault t ≡ 0 → ⊥ = λ y. z (ap (λ (x : Assembled). x.0) l.answers ∙ rw y) in
+      pub refused_text : {r : Assembled} → Refuses t r → Assembles t ops args r ops args
+      refused_text l =
           assembles t ops args (unfold answer_of in (l.answers ∙ sym (ap (λ (f : ℕ). answer_by f t) fault_told)))
-          (rw (fault_told, ne_eqb (text_fault t) 0 some)) (rw (fault_told, ne_eqb (text_fault t) 0 some))
+          (rw (fault_told, ne_eqb (text_fault t) 0 l.some)) (rw (fault_told, ne_eqb (text_fault t) 0 l.some))
 
-      none : r.0 ≡ 0 → text_fault t ≡ 0
-      none z = by_test (eqb (text_fault t) 0) (λ y. eqb-true (text_fault t) 0 y)
-          (λ y. fault_numbered t (sym (ap (λ (x : Assembled). x.0) l.answers ∙ rw y) ∙ z))
-
-      pub filled : {ops₁ args₁ ops₂ args₂ : List ℕ} → r.0 ≡ 0
+      pub filled : {count : ℕ} {a starts numbers ops₁ args₁ ops₂ args₂ : List ℕ} → Accepted t count a starts numbers
           → ops₁ ≡ zeros (length ops) → args₁ ≡ zeros (length args)
           → ops₂ ≡ stored_in opcode_of (program_of t) 0 ops₁ → args₂ ≡ stored_in argument_of (program_of t) 0 args₁
-          → Assembles t ops args r ops₂ args₂
-      filled z p q o b =
-          let y = none z in
-          let few : length (program_of t) ≤ 256 = unfold program_of in (rw (forms_count (lines_of t) (lines_of t) 0) (l.ready z).few) in
-          assembles t ops args (unfold answer_of in (l.answers ∙ sym (ap (λ (f : ℕ). answer_by f t) fault_told)))
-          (rw (fault_told, y) (o ∙ (ap (stored_in opcode_of (program_of t) 0) (p ∙ ap zeros h) ∙ stored_whole opcode_of (program_of t) few)))
-          (rw (fault_told, y) (b ∙ (ap (stored_in argument_of (program_of t) 0) (q ∙ ap zeros g) ∙ stored_whole argument_of (program_of t) few)))
+          → Assembles t ops args (0, 0, count) ops₂ args₂
+      filled l p q o b =
+          let few : length (program_of t) ≤ 256 = unfold program_of in (rw (forms_count (lines_of t) (lines_of t) 0) l.ready.few) in
+          assembles t ops args (unfold answer_of in rw (fault_told, l.none, l.counted))
+          (rw (fault_told, l.none) (o ∙ (ap (stored_in opcode_of (program_of t) 0) (p ∙ ap zeros h) ∙ stored_whole opcode_of (program_of t) few)))
+          (rw (fault_told, l.none) (b ∙ (ap (stored_in argument_of (program_of t) 0) (q ∙ ap zeros g) ∙ stored_whole argument_of (program_of t) few)))

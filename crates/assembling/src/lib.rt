@@ -5,8 +5,9 @@ ghost use Rattle.std.specs.Prelude.{◌≡◌, length};
 ghost use Rattle.spelling.specs.internal.Rows.{table_bytes};
 ghost use Rattle.labels.specs.internal.Search.{NewIndex};
 ghost use Rattle.assembling.specs.Assemble.{Assembles};
-ghost use Rattle.assembling.specs.internal.Looking.{Looked};
+ghost use Rattle.assembling.specs.internal.Looking.{refused, Looked};
 
+use labels::BadLine;
 use slices::BANK_SIZE;
 
 // An answer: 0, 0 and the number of words; or the number of a refusal, its line or 0, and 0.
@@ -14,33 +15,59 @@ use slices::BANK_SIZE;
 #[derive(Clone, Copy)]
 pub struct Assembled(pub u8, pub usize, pub usize);
 
-// The answer to a text for good banks. The addresses of its lines and the index of its labels go into lent
-// buffers.
+// Why a text for good banks is refused: the first line that is no instruction or macro; the first that repeats
+// a label or uses a missing one; or more than 256 words.
+#[derive(Clone, Copy, Debug, PartialEq, Eq)]
+enum Refusal {
+    BadLine(usize),
+    BadLabel(usize),
+    TooLong,
+}
+
+impl From<BadLine> for Refusal {
+    ghost use Rattle.assembling.specs.declared.Refusal.{Refusal};
+
+    ghost from_gives = { λ line r. r ≡ Refusal.BadLine line.number };
+
+    fn from(line: BadLine) -> Refusal {
+        Refusal::BadLine(line.number)
+    }
+}
+
+// A refusal by its number, with its line or 0.
+impl From<Refusal> for Assembled {
+    ghost from_gives = { λ r answer. answer ≡ refused r };
+
+    fn from(refusal: Refusal) -> Assembled {
+        match refusal {
+            Refusal::BadLine(line) => Assembled(24, line, 0),
+            Refusal::BadLabel(line) => Assembled(25, line, 0),
+            Refusal::TooLong => Assembled(26, 0, 0),
+        }
+    }
+}
+
+// The words of a text for good banks, or why it is refused. The addresses of its lines and the index of its
+// labels go into lent buffers.
 fn look(
     table: &[u8],
     text: &[u8],
     addresses: &mut [u8],
     starts: &mut [usize],
     numbers: &mut [usize],
-) -> Assembled
+) -> Result<usize, Refusal>
     requires { (table.now ≡ table_bytes) × (length addresses.old ≡ 256) × NewIndex text.now starts.old numbers.old }
     ensures { Looked text.now result addresses.new starts.new numbers.new }
 {
-    let survey = labels::inspect(table, text, addresses);
-    let bad = survey.bad;
-    if bad != 0 {
-        return Assembled(24, bad, 0);
-    }
+    let count = labels::inspect(table, text, addresses)?;
     labels::index(text, starts, numbers);
-    let fault = labels::label_fault(table, text, starts, numbers);
-    if fault != 0 {
-        return Assembled(25, fault, 0);
+    if let Some(line) = labels::label_fault(table, text, starts, numbers) {
+        return Err(Refusal::BadLabel(line));
     }
-    let words = survey.words;
-    if 256 < words {
-        return Assembled(26, 0, 0);
+    if 256 < count {
+        return Err(Refusal::TooLong);
     }
-    Assembled(0, 0, words)
+    Ok(count)
 }
 
 // A text assembled into both banks, or a refusal that leaves them as they were.
@@ -58,14 +85,14 @@ pub fn assemble(text: &[u8], opcodes: &mut [u8], arguments: &mut [u8]) -> Assemb
     let mut starts: [usize; 4096] = [n; 4096];
     let mut numbers: [usize; 4096] = [0; 4096];
     let table = spelling::table();
-    let answer = look(&table, text, &mut addresses, &mut starts, &mut numbers);
-    if answer.0 != 0 {
-        return answer;
-    }
+    let count = match look(&table, text, &mut addresses, &mut starts, &mut numbers) {
+        Ok(count) => count,
+        Err(refusal) => return Assembled::from(refusal),
+    };
     words::clear(opcodes);
     words::clear(arguments);
     words::store_lines(
         &table, text, &addresses, &starts, &numbers, opcodes, arguments,
     );
-    answer
+    Assembled(0, 0, count)
 }

@@ -2,13 +2,15 @@
 -- Assumes nothing.
 use Prim.Native.Nat.{ℕ, zero, suc, ◌+◌, ◌-◌, ◌≤◌, ◌<◌, min}
 use native.Mathlib.Omega.{arith}
-use native.Mathlib.Numerals.{add-one}
 use mathlib.Core.Path.{◌≡◌, refl, sym, ap, ◌∙◌}
+use mathlib.Core.Bool.{not}
 use mathlib.Core.List.{List, [], ◌∷◌}
+use Rattle.std.specs.List.{take_while}
+use Rattle.std.proofs.lemmas.List.Sums.{take_while-cons}
 use lib.Dec.{eqb, ltb}
 use lib.ListN.{length, get_or, take, drop, drop_of_length-le, length-drop}
-use lib.Seq.{drop-cons, drop-drop}
-use borrow.Author.Tests.{ne_eqb, ltb-true, ltb-false}
+use lib.Seq.{drop-drop}
+use borrow.Author.Tests.{ltb-true, ltb-false}
 use Rattle.slices.proofs.Bools.{by_test}
 use Rattle.labels.specs.Lines.{on_first, lines_of}
 use Rattle.labels.specs.internal.Search.{cut_of, IsLine}
@@ -20,36 +22,19 @@ lines_cut [] h = absurd (omega arith)
 lines_cut (c ∷ []) h = by_test (eqb c 10) (λ e. rw e) (λ e. rw e)
 lines_cut (c ∷ (d ∷ t)) h = by_test (eqb c 10) (λ e. rw e) (λ e. rw e (ap (on_first c) (lines_cut (d ∷ t) (omega arith))))
 
--- the loop to the next line feed
-pub record Cutting (t : List ℕ) (at i : ℕ) : Type 0 where
-  pub from : at ≤ i
-  pub within : i ≤ length t
-  pub left : at + cut_of (drop at t) ≡ i + cut_of (drop i t)
-
-pub cut_starts : {t : List ℕ} {at : ℕ} → at ≤ length t → Cutting t at at
-cut_starts h = record { from = omega arith; within = h; left = refl }
-
-cut_here : (t : List ℕ) (i : ℕ) → i < length t → get_or t i 0 ≡ 10 → cut_of (drop i t) ≡ 0
+-- the bytes before the first line feed
+pub cut_counted : (t : List ℕ) → length (take_while (λ c. not (eqb c 10)) t) ≡ cut_of t
 unfolding cut_of
-cut_here t i h e = rw (drop-cons t i 0 h, e)
+cut_counted [] = refl
+cut_counted (c ∷ t) =
+    by_test (eqb c 10)
+    (λ e. rw (take_while-cons (λ c. not (eqb c 10)) c t, e))
+    (λ e. rw (take_while-cons (λ c. not (eqb c 10)) c t, e) (ap suc (cut_counted t)))
 
-cut_on : (t : List ℕ) (i : ℕ) → i < length t → (get_or t i 0 ≡ 10 → ⊥) → cut_of (drop i t) ≡ suc (cut_of (drop (suc i) t))
+pub cut_within : (t : List ℕ) → cut_of t ≤ length t
 unfolding cut_of
-cut_on t i h e = rw (drop-cons t i 0 h, ne_eqb (get_or t i 0) 10 e)
-
-cut_over : (t : List ℕ) (i : ℕ) → length t ≤ i → cut_of (drop i t) ≡ 0
-unfolding cut_of
-cut_over t i h = rw (drop_of_length-le t h)
-
-module _ {t : List ℕ} {at i : ℕ} (r : Cutting t at i) where
-  pub cut_hits : i < length t → get_or t i 0 ≡ 10 → (i ≡ at + cut_of (drop at t)) × (i ≤ length t)
-  cut_hits h e = (omega (arith, cut_here t i h e, r.left), omega arith)
-
-  pub cut_goes : i < length t → (get_or t i 0 ≡ 10 → ⊥) → Cutting t at (i + 1)
-  cut_goes h e = record { from = let f = r.from in omega arith; within = omega arith; left = rw (add-one i) (omega (arith, cut_on t i h e, r.left)) }
-
-  pub cut_ends : length t ≤ i → (i ≡ at + cut_of (drop at t)) × (i ≤ length t)
-  cut_ends h = (omega (arith, cut_over t i h, r.left), r.within)
+cut_within [] = omega arith
+cut_within (c ∷ t) = by_test (eqb c 10) (λ e. rw e (omega arith)) (λ e. rw e (omega (arith, cut_within t)))
 
 -- the lines left after the one that ends at e
 pub lines_after : (t : List ℕ) (at e a : ℕ) → at < length t → e ≡ at + cut_of (drop at t) → e ≤ length t → a ≡ min (e + 1) (length t)

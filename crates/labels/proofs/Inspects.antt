@@ -6,6 +6,7 @@ use mathlib.Core.Path.{◌≡◌, refl, sym, ap, ◌∙◌}
 use mathlib.Core.Bool.{Bool}
 use mathlib.Core.List.{List, [], ◌∷◌}
 use lib.Dec.{eqb}
+use Rattle.std.specs.Prelude.{Ok, Err}
 use lib.ListN.{length, get_or, take, drop, set, length-set, length-drop}
 use lib.Seq.{get_or-set_same, get_or-set_other, take_all}
 use borrow.Author.Tests.{eq-eqb, ne_eqb, eqb-true, eqb-false}
@@ -35,30 +36,26 @@ inspect_starts e =
     record { search = search_starts; counted = unfold count_from in refl; known = record { room = e; held = λ j h l. absurd (omega arith) } }
 
 module _ {t addresses : List ℕ} {at k words : ℕ} (r : Inspecting t at k words addresses) where
-  pub inspect_ends : length t ≤ at → Inspected t (record { bad = 0; words = words }) addresses
+  pub inspect_ends : length t ≤ at → Inspected t (Ok words) addresses
   inspect_ends h =
       let none : drop (k - 1) (lines_of t) ≡ [] = r.search.line.rest ∙ lines_over t at h in
       let all : length (lines_of t) ≤ k - 1 = omega (arith, ap length none, length-drop (k - 1) (lines_of t)) in
       record {
-        bad = search_ends r.search h;
-        words = λ _. r.counted ∙ ap (count_from 0) (take_all (k - 1) (lines_of t) all);
-        known = λ _. record { room = r.known.room; held = λ j a b. r.known.held j (omega arith) b };
+        good = sym (search_ends r.search h);
+        words = r.counted ∙ ap (count_from 0) (take_all (k - 1) (lines_of t) all);
+        known = record { room = r.known.room; held = λ j a b. r.known.held j (omega arith) b };
       }
 
-  module _ {e s : ℕ} (h : at < length t) (f : e ≡ at + cut_of (drop at t)) (g : e ≤ length t) (q : s ≡ size_of (take (e - at) (drop at t))) where
-    pub inspect_hits : {b : List ℕ} → s ≡ 0 → Inspected t (record { bad = k; words = words }) b
-    inspect_hits z =
-        record {
-          bad = search_hits r.search h f g (eq-eqb (size_of (take (e - at) (drop at t))) 0 (sym q ∙ z));
-          words = λ y. absurd (omega (arith, r.search.line.from));
-          known = λ y. absurd (omega (arith, r.search.line.from));
-        }
+  module _ {e : ℕ} (h : at < length t) (f : e ≡ at + cut_of (drop at t)) (g : e ≤ length t) where
+    pub inspect_hits : (b : List ℕ) → 0 ≡ size_of (take (e - at) (drop at t)) → Inspected t (Err (record { number = k })) b
+    inspect_hits b z =
+        (search_hits r.search h f g (eq-eqb (size_of (take (e - at) (drop at t))) 0 (sym z)), omega (arith, r.search.line.from))
 
-    pub inspect_goes : {a m : ℕ} {b : List ℕ} → (s ≡ 0 → ⊥) → a ≡ min (e + 1) (length t) → m ≡ more words s → b ≡ set addresses (k - 1) (words % 256)
+    pub inspect_goes : {a m s : ℕ} {b : List ℕ} → s ≡ size_of (take (e - at) (drop at t)) → (size_of (take (e - at) (drop at t)) ≡ 0 → ⊥) → a ≡ min (e + 1) (length t) → m ≡ more words s → b ≡ set addresses (k - 1) (words % 256)
         → Inspecting t a (k + 1) m b
-    inspect_goes {a} {m} {b} z p o u =
+    inspect_goes {a} {m} {s} {b} q z p o u =
         record {
-          search = search_goes r.search h f g (ne_eqb (size_of (take (e - at) (drop at t))) 0 (λ y. z (q ∙ y))) p;
+          search = search_goes r.search h f g (ne_eqb (size_of (take (e - at) (drop at t))) 0 z) p;
           counted = rw one (o ∙ counted_more);
           known = record { room = rw u (length-set addresses (k - 1) (words % 256) ∙ r.known.room); held = rw u held_more };
         }

@@ -1,15 +1,14 @@
 -- Labels and names: what a label's bytes are, and when two names are the same.
 -- Assumes nothing.
-use Prim.Native.Nat.{ℕ, suc, ◌+◌, ◌-◌, ◌≤◌, ◌<◌}
+use Prim.Native.Nat.{ℕ, ◌+◌, ◌-◌, ◌≤◌, ◌<◌}
 use native.Mathlib.Omega.{arith}
-use native.Mathlib.Numerals.{add-one}
 use mathlib.Core.Path.{◌≡◌, refl, sym, ap, ap₂, ◌∙◌}
 use mathlib.Core.Bool.{Bool, true, false, ◌&&◌}
 use mathlib.Core.List.{List, [], ◌∷◌}
 use lib.Dec.{eqb, leb, ltb}
-use lib.ListN.{length, get_or, take, drop, drop_of_length-le, get_or-eq_default}
-use lib.Seq.{drop-cons, get_or-take, length-take-le}
-use borrow.Author.Tests.{eq-eqb, ne_eqb, eqb-true, eqb-false, lt-leb, ltb-true, ltb-false}
+use lib.ListN.{length, get_or, take, get_or-eq_default}
+use lib.Seq.{get_or-take, length-take-le}
+use borrow.Author.Tests.{eqb-true, eqb-false, lt-leb, leb-true, ltb-true, ltb-false}
 use Rattle.slices.proofs.Bools.{by_test, both}
 use Rattle.spelling.specs.Words.{word_length}
 use Rattle.labels.specs.Lines.{label_size, label_of}
@@ -22,6 +21,17 @@ label_test l = leb 1 (word_length true l) && leb (word_length true l) 12 && eqb 
 pub label_read : (l : List ℕ) → (label_size l ≡ 0 → ⊥) → (label_size l ≡ word_length true l) × (label_test l ≡ true)
 unfolding label_size
 label_read l f = by_test (label_test l) (λ e. (rw e, e)) (λ e. absurd (f (rw e)))
+
+pub label_untold : (l : List ℕ) → label_test l ≡ false → label_size l ≡ 0
+unfolding label_size
+label_untold l t = rw t
+
+pub label_told : (l : List ℕ) {n : ℕ} → n ≡ word_length true l → label_test l ≡ true → (n ≡ label_size l) × (label_size l ≡ 0 → ⊥)
+unfolding label_size
+label_told l {n} e t =
+    let some : 1 ≤ word_length true l = leb-true _ _ (both (leb 1 (word_length true l)) (leb (word_length true l) 12)
+    (both (leb 1 (word_length true l) && leb (word_length true l) 12) _ (both _ _ t).0).0).0 in
+    (rw (t, e), λ z. omega (arith, rw t at z))
 
 -- a label, the colon and the space stand inside the line
 pub label_fits : (l : List ℕ) → (label_size l ≡ 0 → ⊥) → label_size l + 2 ≤ length l
@@ -55,33 +65,6 @@ same_equal [] [] e = refl
 same_equal [] (d ∷ b) e = cc
 same_equal (c ∷ a) [] e = cc
 same_equal (c ∷ a) (d ∷ b) e = let t = both (eqb c d) (same a b) e in ap₂ ◌∷◌ (eqb-true c d t.0) (same_equal a b t.1)
-
--- names of different lengths differ
-pub same_length : (a b : List ℕ) → (length a ≡ length b → ⊥) → same a b ≡ false
-same_length a b f = by_test (same a b) (λ e. absurd (f (ap length (same_equal a b e)))) (λ e. e)
-
--- the loop over two names' bytes
-pub record Comparing (a b : List ℕ) (i : ℕ) : Type 0 where
-  pub equal : length a ≡ length b
-  pub within : i ≤ length a
-  pub left : same a b ≡ same (drop i a) (drop i b)
-
-pub compare_starts : {a b : List ℕ} → length a ≡ length b → Comparing a b 0
-compare_starts h = record { equal = h; within = omega arith; left = refl }
-
-module _ {a b : List ℕ} {i : ℕ} (r : Comparing a b i) where
-  at_both : i < length a → same (drop i a) (drop i b) ≡ (eqb (get_or a i 0) (get_or b i 0) && same (drop (suc i) a) (drop (suc i) b))
-  at_both h = let k : i < length b = omega (arith, r.equal) in rw (drop-cons a i 0 h, drop-cons b i 0 k)
-
-  pub compare_differs : i < length a → (get_or a i 0 ≡ get_or b i 0 → ⊥) → false ≡ same a b
-  compare_differs h f = sym (r.left ∙ (at_both h ∙ rw (ne_eqb (get_or a i 0) (get_or b i 0) f)))
-
-  pub compare_goes : i < length a → get_or a i 0 ≡ get_or b i 0 → Comparing a b (i + 1)
-  compare_goes h e =
-      record { equal = r.equal; within = omega arith; left = rw (add-one i) (r.left ∙ (at_both h ∙ rw (eq-eqb (get_or a i 0) (get_or b i 0) e))) }
-
-  pub compare_ends : length a ≤ i → true ≡ same a b
-  compare_ends h = let k : length b ≤ i = omega (arith, r.equal) in sym (r.left ∙ rw (drop_of_length-le a h, drop_of_length-le b k))
 
 -- a line gives a name: it is labelled, and its first bytes are the name's
 pub given_labelled : (l name : List ℕ) → 0 < length name → label_of l ≡ name → label_size l ≡ 0 → ⊥

@@ -8,11 +8,10 @@ use mathlib.Core.Bool.{Bool, true, false, cond, not}
 use mathlib.Core.List.{List, [], ◌∷◌}
 use lib.Dec.{eqb}
 use lib.ListN.{length, get_or, take, drop}
-use borrow.Author.Tests.{eq-eqb, ne_eqb}
+use borrow.Author.Tests.{eq-eqb, ne_eqb, eqb-false}
 use Rattle.slices.proofs.Bools.{by_test}
-use Rattle.reading.specs.declared.Matched.{Matched}
-use Rattle.reading.specs.declared.Matched.TheVariants.{Fits, Misfit}
-use Rattle.spelling.specs.declared.Places.{Places}
+use Rattle.std.specs.Prelude.{Option, Some, None}
+use Rattle.reading.specs.declared.Fit.{Fit}
 use Rattle.labels.specs.Lines.{lines_of, label_size, label_of, line_of, name_in, name_of}
 use Rattle.labels.specs.Labels.{same, given_at, repeats, misses}
 use Rattle.labels.specs.internal.Search.{cut_of, first_line, IsLine}
@@ -102,6 +101,15 @@ same_self : (l : List ℕ) → same l l ≡ true
 same_self [] = refl
 same_self (c ∷ l) = rw (eq-eqb c c refl) (same_self l)
 
+-- some line gives the label of line k
+pub label_given : (t l : List ℕ) (k : ℕ) → IsLine t k l → (label_size l ≡ 0 → ⊥) → given_at (label_of l) (lines_of t) 1 ≡ 0 → ⊥
+label_given t l k r some z =
+    let n = label_of l in
+    let G = given_at n (take (k - 1) (lines_of t)) 1 in
+    let there : given_at n (lines_of t) 1 ≡ cond (eqb G 0) (1 + (k - 1)) G =
+    given_there n (lines_of t) (k - 1) 1 (omega arith) (omega (arith, r.from, r.within)) (rw r.is (same_self n)) in
+    by_test (eqb G 0) (λ e. omega (arith, z, rw e at there)) (λ e. eqb-false G 0 e (sym (rw e at there) ∙ z))
+
 -- line k repeats its label where the first line that gives it is not line k
 pub repeats_is : (t l : List ℕ) (k g : ℕ) → IsLine t k l → (label_size l ≡ 0 → ⊥) → g ≡ given_at (label_of l) (lines_of t) 1
     → not (eqb g k) ≡ repeats (take (k - 1) (lines_of t)) l
@@ -123,15 +131,15 @@ pub label_some : {m : List ℕ} (l : List ℕ) → (label_size l ≡ 0 → ⊥) 
 label_some l some e = rw e (let f = label_length l in omega (arith, f, some))
 
 -- the name that a line uses
-module _ (l : List ℕ) (all : List (List ℕ)) {m : Matched} (e : m ≡ line_of l) where
-  pub misfit_nameless : m ≡ Misfit → false ≡ misses all l
+module _ (l : List ℕ) (all : List (List ℕ)) {m : Option Fit} (e : m ≡ line_of l) where
+  pub misfit_nameless : m ≡ None → false ≡ misses all l
   unfolding name_of
   misfit_nameless q = rw (← e, q)
 
-  module _ {k : ℕ} {p : Places} {name : List ℕ} (q : m ≡ Fits k p) (n : name ≡ take p.size (drop p.from l)) where
+  module _ {f : Fit} {name : List ℕ} (q : m ≡ Some f) (n : name ≡ take f.places.size (drop f.places.from l)) where
     name_is : name_of l ≡ name
     unfolding name_of
-    name_is = ap (λ (x : Matched). name_in x l) (sym e ∙ q) ∙ sym n
+    name_is = ap (λ (x : Option Fit). name_in x l) (sym e ∙ q) ∙ sym n
 
     pub nameless : length name ≡ 0 → false ≡ misses all l
     nameless z = rw (name_is, z)

@@ -1,12 +1,11 @@
 -- The lines of a text. 02 [1]: "One instruction stands on a line, .. optionally after a label of 1 to 12 letters (case counts), a colon and a
 -- space. Lines count from 1 and end in a line feed, which the last may lack."
 -- Assumes nothing.
-use Rattle.std.specs.Prelude.{ℕ, ◌+◌, Bool, true, cond, not, ◌&&◌, List, [], ◌∷◌, eqb, leb, length, get_or, take, drop}
+use Rattle.std.specs.Prelude.{ℕ, ◌+◌, Bool, true, cond, not, ◌&&◌, List, [], ◌∷◌, eqb, leb, length, get_or, take, drop, Option, Some, None}
 use Rattle.reading.specs.Reading.{matched_of}
 use Rattle.spelling.specs.Spellings.{row_count, forms_of}
 use Rattle.spelling.specs.Words.{word_length}
-use Rattle.reading.specs.declared.Matched.{Matched}
-use Rattle.reading.specs.declared.Matched.TheVariants.{Fits, Misfit}
+use Rattle.reading.specs.declared.Fit.{Fit}
 
 -- one byte more at the front of the first line
 abbrev pub on_first : ℕ → List (List ℕ) → List (List ℕ)
@@ -30,13 +29,13 @@ abbrev pub is_labelled : List ℕ → Bool
 is_labelled l = not (eqb (label_size l) 0)
 
 -- the row that a line fits behind its label
-unfoldable pub line_of : List ℕ → Matched
+unfoldable pub line_of : List ℕ → Option Fit
 line_of l = matched_of l (cond (eqb (label_size l) 0) 0 (label_size l + 2)) 0 row_count
 
 -- how many words a line stands for, whatever its addresses; 0 where it is no instruction or macro
-abbrev pub size_in : Matched → ℕ
-size_in (Fits k p) = length (forms_of k p 0 0)
-size_in Misfit = 0
+abbrev pub size_in : Option Fit → ℕ
+size_in (Some f) = length (forms_of f.row f.places 0 0)
+size_in None = 0
 
 unfoldable pub size_of : List ℕ → ℕ
 size_of l = size_in (line_of l)
@@ -47,9 +46,9 @@ word_count [] = 0
 word_count (l ∷ ls) = size_of l + word_count ls
 
 -- the name in the place of a line's address, empty for none
-abbrev pub name_in : Matched → List ℕ → List ℕ
-name_in (Fits k p) l = take p.size (drop p.from l)
-name_in Misfit l = []
+abbrev pub name_in : Option Fit → List ℕ → List ℕ
+name_in (Some f) l = take f.places.size (drop f.places.from l)
+name_in None l = []
 
 unfoldable pub name_of : List ℕ → List ℕ
 name_of l = name_in (line_of l) l

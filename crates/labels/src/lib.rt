@@ -1,53 +1,50 @@
 // The lines of a text, how many words they stand for, and the labels that they give and use.
 #![tactic(auto)]
 
-ghost use Rattle.std.specs.Prelude.{◌≡◌, false, length, take, drop, set, ◌+◌, ◌-◌, ◌≤◌, ◌<◌, min};
+ghost use Rattle.std.specs.Prelude.{◌≡◌, false, not, eqb, length, take, drop, take_while, set, ◌+◌, ◌-◌, ◌≤◌, ◌<◌, min};
 ghost use Rattle.spelling.specs.internal.Rows.{table_bytes};
 ghost use Rattle.labels.specs.Lines.{lines_of, label_size, label_of, line_of, size_of};
 ghost use Rattle.labels.specs.Labels.{same, given_at, repeats, misses};
-ghost use Rattle.labels.specs.internal.Search.{cut_of, bad_label, more, slots, hash_of, starts_after, numbers_after, Index, Inspected, WordsOf, NewIndex, IsLine};
+ghost use Rattle.labels.specs.internal.Search.{unless_zero, cut_of, bad_label, more, slots, hash_of, starts_after, numbers_after, Index, Inspected, WordsOf, NewIndex, IsLine};
 
-use reading::Matched;
+use reading::Fit;
 
 // How many hashes there are by which labels are looked up.
 pub const SLOTS: usize = 4096;
 
-// What a look at every line tells: the first that is no instruction or macro, 0 for none, and the words of all
-// lines; counting stops above 256.
-#[derive(Clone, Copy)]
-pub struct Survey {
-    pub bad: usize,
-    pub words: usize,
+// The line of a text that is no instruction or macro, the first if there are more.
+#[derive(Clone, Copy, Debug, PartialEq, Eq)]
+pub struct BadLine {
+    pub number: usize,
 }
 
-// The letters of a line's label, 0 for none.
-fn label_size(line: &[u8]) -> usize
-    ensures { result ≡ label_size line.now }
+// The letters of a line's label.
+fn label_size(line: &[u8]) -> Option<usize>
+    ensures { result ≡ unless_zero (label_size line.now) }
 {
     let n = spelling::word_size(line, 0, true);
     if 12 < n {
-        return 0;
+        return None;
     }
     if (1 <= n)
         & (n <= 12)
         & (slices::byte_at(line, n) == b':')
         & (slices::byte_at(line, n + 1) == b' ')
     {
-        return n;
+        return Some(n);
     }
-    0
+    None
 }
 
 // The row that a line fits behind its label.
-pub fn read_line(table: &[u8], line: &[u8]) -> Matched
+pub fn read_line(table: &[u8], line: &[u8]) -> Option<Fit>
     requires { table.now ≡ table_bytes }
     ensures { result ≡ line_of line.now }
 {
-    let n = label_size(line);
-    if n == 0 {
-        return reading::find_row(table, line, 0);
+    match label_size(line) {
+        Some(n) => reading::find_row(table, line, n + 2),
+        None => reading::find_row(table, line, 0),
     }
-    reading::find_row(table, line, n + 2)
 }
 
 // The words of a row of the table.
@@ -64,16 +61,22 @@ pub fn row_size(k: usize) -> usize
     3
 }
 
-// The words of a line, 0 where it is no instruction or macro.
-fn line_size(table: &[u8], line: &[u8]) -> usize
+// The words of a line that is an instruction or macro.
+fn line_size(table: &[u8], line: &[u8]) -> Option<usize>
     requires { table.now ≡ table_bytes }
-    ensures { (result ≡ size_of line.now) × (result ≤ 3) }
+    ensures { (result ≡ unless_zero (size_of line.now)) × (size_of line.now ≤ 3) }
 {
-    let m = read_line(table, line);
-    match m {
-        Matched::Fits(k, _) => row_size(k),
-        Matched::Misfit => 0,
+    match read_line(table, line) {
+        Some(fit) => Some(row_size(fit.row)),
+        None => None,
     }
+}
+
+// How many bytes stand before the first line feed.
+fn front_line_size(text: &[u8]) -> usize
+    ensures { result ≡ length (take_while (λ c. not (eqb c 10)) text.now) }
+{
+    text.iter().take_while(|c| **c != b'\n').count()
 }
 
 // The place of the next line feed, or the end.
@@ -81,15 +84,7 @@ pub fn line_end(text: &[u8], at: usize) -> usize
     requires { at ≤ length text.now }
     ensures { (result ≡ at + cut_of (drop at text.now)) × (result ≤ length text.now) }
 {
-    let n = text.len();
-    let mut i = at;
-    while i < n {
-        if text[i] == b'\n' {
-            return i;
-        }
-        i += 1;
-    }
-    i
+    at + front_line_size(&text[at..])
 }
 
 // The start of the line after the one that ends at a place.
@@ -120,9 +115,9 @@ pub fn set_at(bytes: &mut [u8], at: usize, x: u8)
     }
 }
 
-// The first line that is no instruction or macro, and the words of all lines; the words before each of the
-// first 256 lines go into a lent buffer.
-pub fn inspect(table: &[u8], text: &[u8], addresses: &mut [u8]) -> Survey
+// The words of all lines, counting stops above 256; or the first line that is no instruction or macro. The
+// words before each of the first 256 lines go into a lent buffer.
+pub fn inspect(table: &[u8], text: &[u8], addresses: &mut [u8]) -> Result<usize, BadLine>
     requires { (table.now ≡ table_bytes) × (length addresses.old ≡ 256) }
     ensures { Inspected text.now result addresses.new }
 {
@@ -132,48 +127,26 @@ pub fn inspect(table: &[u8], text: &[u8], addresses: &mut [u8]) -> Survey
     let mut words: usize = 0;
     while at < n {
         let end = line_end(text, at);
-        let size = line_size(table, &text[at..end]);
-        if size == 0 {
-            return Survey { bad: k, words };
-        }
+        let Some(size) = line_size(table, &text[at..end]) else {
+            return Err(BadLine { number: k });
+        };
         set_at(addresses, k - 1, (words % 256) as u8);
         words = count_on(words, size);
         k += 1;
         at = next_line(end, n);
     }
-    Survey { bad: 0, words }
+    Ok(words)
 }
 
 // The hash by which a name is looked up.
 fn hash(name: &[u8]) -> usize
     ensures { (result ≡ hash_of name.now) × (result < slots) }
 {
-    let n = name.len();
     let mut h: usize = 0;
-    let mut i: usize = 0;
-    while i < n {
-        h = (33 * h + (name[i] as usize)) % SLOTS;
-        i += 1;
+    for c in name {
+        h = (33 * h + usize::from(*c)) % SLOTS;
     }
     h
-}
-
-// Whether two names are the same.
-fn same_bytes(a: &[u8], b: &[u8]) -> bool
-    ensures { result ≡ same a.now b.now }
-{
-    let n = a.len();
-    if n != b.len() {
-        return false;
-    }
-    let mut i: usize = 0;
-    while i < n {
-        if a[i] != b[i] {
-            return false;
-        }
-        i += 1;
-    }
-    true
 }
 
 // Whether a line gives a name as its label. Most lines that don't have no colon where the name would end, or
@@ -189,7 +162,10 @@ fn gives(line: &[u8], name: &[u8]) -> bool
     if slices::byte_at(line, n - 1) != name[n - 1] {
         return false;
     }
-    same_bytes(slices::part(line, 0, label_size(line)), name)
+    match label_size(line) {
+        Some(size) => slices::part(line, 0, size) == name,
+        None => false,
+    }
 }
 
 // A labelled line's place and line number are put where its label is looked up, unless an earlier line's
@@ -198,10 +174,9 @@ fn enter(line: &[u8], at: usize, k: usize, starts: &mut [usize], numbers: &mut [
     requires { (length starts.old ≡ slots) × (length numbers.old ≡ slots) }
     ensures { (starts.new ≡ starts_after line.now at numbers.old starts.old) × (numbers.new ≡ numbers_after line.now k numbers.old) }
 {
-    let size = label_size(line);
-    if size == 0 {
+    let Some(size) = label_size(line) else {
         return;
-    }
+    };
     let h = hash(slices::part(line, 0, size));
     if numbers[h] != 0 {
         return;
@@ -227,10 +202,17 @@ pub fn index(text: &[u8], starts: &mut [usize], numbers: &mut [usize])
     }
 }
 
-// The first line that gives a name, 0 for none.
-pub fn given_at(text: &[u8], name: &[u8], starts: &[usize], numbers: &[usize]) -> usize
+// A number out of the index as a line's: lines count from 1, and 0 stands there for none.
+fn line_number(k: usize) -> Option<usize>
+    ensures { result ≡ unless_zero k }
+{
+    if k == 0 { None } else { Some(k) }
+}
+
+// The first line that gives a name.
+pub fn given_at(text: &[u8], name: &[u8], starts: &[usize], numbers: &[usize]) -> Option<usize>
     requires { (0 < length name.now) × Index text.now starts.now numbers.now }
-    ensures { result ≡ given_at name.now (lines_of text.now) 1 }
+    ensures { result ≡ unless_zero (given_at name.now (lines_of text.now) 1) }
 {
     let n = text.len();
     let h = hash(name);
@@ -239,12 +221,12 @@ pub fn given_at(text: &[u8], name: &[u8], starts: &[usize], numbers: &[usize]) -
     while at < n {
         let end = line_end(text, at);
         if gives(&text[at..end], name) {
-            return k;
+            return line_number(k);
         }
         k += 1;
         at = next_line(end, n);
     }
-    0
+    None
 }
 
 // Whether line k repeats a label that a line before it gives.
@@ -252,11 +234,13 @@ fn is_repeat(text: &[u8], line: &[u8], k: usize, starts: &[usize], numbers: &[us
     requires { Index text.now starts.now numbers.now × IsLine text.now k line.now }
     ensures { result ≡ repeats (take (k - 1) (lines_of text.now)) line.now }
 {
-    let size = label_size(line);
-    if size == 0 {
+    let Some(size) = label_size(line) else {
         return false;
+    };
+    match given_at(text, slices::part(line, 0, size), starts, numbers) {
+        Some(first) => first != k,
+        None => false,
     }
-    given_at(text, slices::part(line, 0, size), starts, numbers) != k
 }
 
 // Whether a line uses a label that no line gives.
@@ -264,25 +248,20 @@ fn is_missing(table: &[u8], text: &[u8], line: &[u8], starts: &[usize], numbers:
     requires { (table.now ≡ table_bytes) × Index text.now starts.now numbers.now }
     ensures { result ≡ misses (lines_of text.now) line.now }
 {
-    let m = read_line(table, line);
-    match m {
-        Matched::Fits(_, places) => {
-            let from = places.from;
-            let size = places.size;
-            let name = slices::part(line, from, size);
-            if name.len() == 0 {
-                return false;
-            }
-            given_at(text, name, starts, numbers) == 0
-        }
-        Matched::Misfit => false,
+    let Some(fit) = read_line(table, line) else {
+        return false;
+    };
+    let name = slices::part(line, fit.places.from, fit.places.size);
+    if name.len() == 0 {
+        return false;
     }
+    given_at(text, name, starts, numbers).is_none()
 }
 
-// The first line that repeats a label or uses a missing one, 0 for none.
-pub fn label_fault(table: &[u8], text: &[u8], starts: &[usize], numbers: &[usize]) -> usize
+// The first line that repeats a label or uses a missing one.
+pub fn label_fault(table: &[u8], text: &[u8], starts: &[usize], numbers: &[usize]) -> Option<usize>
     requires { (table.now ≡ table_bytes) × Index text.now starts.now numbers.now }
-    ensures { result ≡ bad_label text.now }
+    ensures { result ≡ unless_zero (bad_label text.now) }
 {
     let n = text.len();
     let mut at: usize = 0;
@@ -292,10 +271,10 @@ pub fn label_fault(table: &[u8], text: &[u8], starts: &[usize], numbers: &[usize
         if is_repeat(text, &text[at..end], k, starts, numbers)
             | is_missing(table, text, &text[at..end], starts, numbers)
         {
-            return k;
+            return Some(k);
         }
         k += 1;
         at = next_line(end, n);
     }
-    0
+    None
 }

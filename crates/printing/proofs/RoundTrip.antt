@@ -14,7 +14,7 @@ use Rattle.isa.specs.Encode.{Valid}
 use Rattle.isa.specs.declared.Instr.{Instr}
 use Rattle.numbers.specs.Numbers.{fields_of, instr_of}
 use Rattle.numbers.specs.declared.Fields.{Fields}
-use Rattle.reading.specs.declared.Matched.TheVariants.{Fits}
+use Rattle.std.specs.Prelude.{Some}
 use Rattle.spelling.specs.declared.Places.{Places}
 use Rattle.reading.specs.Reading.{empty_places, fits, read_of, matched_of}
 use Rattle.spelling.specs.Spellings.{spellings, pattern_of, form_at, function_at, table_form, forms_of}
@@ -29,7 +29,7 @@ use Rattle.printing.proofs.ValidFields.{valid_fields, Told, row_told}
 abbrev pub places_of : Instr → Places
 places_of i = places_by (pattern_of (spelling_row (fields_of i))) (fields_of i) empty_places
 
-pub line_printed : (i : Instr) → Valid i → (fields_of i).5 < 256 → matched_of (text_of i) 0 0 90 ≡ Fits (spelling_row (fields_of i)) (places_of i)
+pub line_printed : (i : Instr) → Valid i → (fields_of i).5 < 256 → matched_of (text_of i) 0 0 90 ≡ Some (record { row = spelling_row (fields_of i); places = places_of i })
 unfolding text_of
 line_printed i v h =
     let x = fields_of i in

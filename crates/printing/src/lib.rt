@@ -68,14 +68,12 @@ fn write_filled(out: &mut [u8], at: usize, k: usize, x: Fields, table: &[u8]) ->
     ensures { page out.new result ≡ write_of (filled (pattern_of k) x) (page out.old at) }
 {
     let mut next = at;
-    let mut j: usize = 0;
-    while j < spelling::ROW_WIDTH {
+    for j in 0..spelling::ROW_WIDTH {
         let c = spelling::pattern(table, k, j);
         if c == b'.' {
             return next;
         }
         next = write_shown(out, next, x, c);
-        j += 1;
     }
     next
 }

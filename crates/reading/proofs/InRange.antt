@@ -8,8 +8,8 @@ use lib.Dec.{eqb, leb, ltb}
 use lib.ListN.{length, get_or, drop}
 use borrow.Author.Tests.{ltb-true}
 use Rattle.slices.proofs.Bools.{by_test, both}
-use Rattle.reading.specs.declared.Matched.{Matched}
-use Rattle.reading.specs.declared.Matched.TheVariants.{Fits, Misfit}
+use Rattle.std.specs.Prelude.{Option, Some, None}
+use Rattle.reading.specs.declared.Fit.{Fit}
 use Rattle.spelling.specs.declared.Operand.{Operand}
 use Rattle.spelling.specs.declared.Operand.TheVariants.{Register, Number, Name, Other}
 use Rattle.spelling.specs.declared.Places.{Places}
@@ -25,9 +25,9 @@ pub record InRange (p : Places) : Type 0 where
   pub b : p.b < 4
 
 -- of the row that a line fits, if it fits one
-abbrev pub MatchedInRange : Matched → Type 0
-MatchedInRange (Fits k p) = InRange p
-MatchedInRange Misfit = Unit {0}
+abbrev pub MatchedInRange : Option Fit → Type 0
+MatchedInRange (Some f) = InRange f.places
+MatchedInRange None = Unit {0}
 
 -- a word that is a register is one of the four
 abbrev LowOperand : Operand → Type 0

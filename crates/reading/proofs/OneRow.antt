@@ -11,7 +11,7 @@ use lib.ListN.{get_or, drop}
 use borrow.Author.Tests.{eqb-true, ltb-true, ltb-false, not-true}
 use Rattle.slices.proofs.Bools.{by_test, both, neither}
 use Rattle.slices.proofs.Below as below
-use Rattle.reading.specs.declared.Matched.TheVariants.{Fits}
+use Rattle.std.specs.Prelude.{Some}
 use Rattle.spelling.specs.declared.Operand.{Operand}
 use Rattle.spelling.specs.declared.Operand.TheVariants.{Register, Number, Name, Other}
 use Rattle.reading.specs.declared.Scan.{Scan}
@@ -99,7 +99,7 @@ one_row l i j k h g e f =
     omega (arith, ltb-false j k a, ltb-false k j b)))
 
 -- so the row that a line fits is the row that is found
-pub row_found : (l : List ℕ) (i k : ℕ) → k < 90 → fits l (read_of l i k) ≡ true → matched_of l i 0 90 ≡ Fits k (read_of l i k).places
+pub row_found : (l : List ℕ) (i k : ℕ) → k < 90 → fits l (read_of l i k) ≡ true → matched_of l i 0 90 ≡ Some (record { row = k; places = (read_of l i k).places })
 row_found l i k h f = sym (seek_hits (record { within = omega arith; left = skip_to l i 0 k (omega arith) (omega arith) others }) h refl f)
   where
     others : (j : ℕ) → 0 ≤ j → j < k → fits l (read_of l i j) ≡ false

@@ -9,14 +9,14 @@ use mathlib.Core.Bool.{Bool, true, false, not, cond, ◌&&◌}
 use mathlib.Core.List.{List, [], ◌∷◌}
 use lib.Dec.{eqb, ltb}
 use lib.ListN.{length, get_or}
-use borrow.Author.Tests.{eq-eqb, ltb-true, ltb-false, not-true, eqb-true}
+use borrow.Author.Tests.{eq-eqb, ltb-true, not-true, eqb-true}
 use Rattle.slices.proofs.Bools.{by_test, both}
 use Rattle.slices.proofs.Below as below
-use Rattle.reading.specs.declared.Matched.TheVariants.{Fits, Misfit}
+use Rattle.std.specs.Prelude.{Some, None}
 use Rattle.reading.specs.declared.Scan.{Scan}
 use Rattle.spelling.specs.Spellings.{spellings, pattern_of}
 use Rattle.reading.specs.Reading.{is_place, scanned, empty_places, literal_of, byte_of, scan_of, read_of, fits, matched_of}
-use Rattle.reading.specs.internal.Rows.{begins_of, NextRow}
+use Rattle.reading.specs.internal.Rows.{begins_of}
 use Rattle.reading.proofs.Scans.{scan_failed}
 
 -- a scan that has failed does not fit
@@ -119,7 +119,7 @@ pass_over l i k m (suc d) f =
     let n : suc d + m ≡ suc (d + m) = omega arith in
     rw (n, f k (omega arith) (omega arith), e) (pass_over l i (suc k) m d (λ j a b. f j (omega arith) (omega arith)))
 
-pub few_fit_none : (l : List ℕ) (i : ℕ) → length l < i + 3 → Misfit ≡ matched_of l i 0 90
+pub few_fit_none : (l : List ℕ) (i : ℕ) → length l < i + 3 → None ≡ matched_of l i 0 90
 few_fit_none l i h = sym (pass_over l i 0 0 90 (λ j a b. few_misfit l i j h b) ∙ (unfold matched_of in refl))
 
 -- the search has passed over the rows before k
@@ -134,40 +134,30 @@ skip_to l i k r h g f =
     let s : 90 - k ≡ (r - k) + (90 - r) = omega arith in
     ap (matched_of l i k) s ∙ pass_over l i k (90 - r) (r - k) (λ j a b. f j a (omega arith)) ∙ ap (λ (j : ℕ). matched_of l i j (90 - r)) e
 
-module _ (l : List ℕ) (i : ℕ) {x y z : ℕ} (p : x ≡ get_or l i 0) (q : y ≡ get_or l (i + 1) 0) (r : z ≡ get_or l (i + 2) 0) where
-  skip_next : {k n : ℕ} → NextRow k x y z n → matched_of l i k (90 - k) ≡ matched_of l i n (90 - n)
-  skip_next {k} {n} s =
-      skip_to l i k n s.from s.within
-      (λ j a b. row_misfits l i p q r j (omega (arith, s.within)) (s.skipped j a b))
+pub seek_starts : {l : List ℕ} {i : ℕ} → Seeking l i 0
+seek_starts = record { within = omega arith; left = refl }
 
-  pub seek_starts : {n : ℕ} → NextRow 0 x y z n → Seeking l i n
-  seek_starts s = record { within = s.within; left = skip_next s }
+seek_past : {l : List ℕ} {i k : ℕ} → Seeking l i k → k < 90 → fits l (read_of l i k) ≡ false → Seeking l i (k + 1)
+seek_past {l} {i} {k} w h f =
+    record {
+      within = omega arith;
+      left = w.left ∙ skip_to l i k (k + 1) (omega arith) (omega arith) (λ j a b. let j=k : j ≡ k = omega arith in rw j=k f);
+    }
 
-  pub seek_goes : {k n : ℕ} {s : Scan} → Seeking l i k → k < 90 → s ≡ read_of l i k → fits l s ≡ false → NextRow (k + 1) x y z n → Seeking l i n
-  seek_goes {k} {n} {s} w h e f t =
-      let one : matched_of l i k (90 - k) ≡ matched_of l i (k + 1) (90 - (k + 1)) =
-      skip_to l i k (k + 1) (omega arith) (omega arith)
-      (λ j a b. let j=k : j ≡ k = omega arith in rw (j=k, ← e) f) in
-      record { within = t.within; left = w.left ∙ one ∙ skip_next t }
+-- a row that begins with other bytes, and one that was tried
+pub seek_other : (l : List ℕ) (i : ℕ) {x y z k : ℕ} → x ≡ get_or l i 0 → y ≡ get_or l (i + 1) 0 → z ≡ get_or l (i + 2) 0
+    → Seeking l i k → k < 90 → begins_of k x y z ≡ false → Seeking l i (k + 1)
+seek_other l i {k = k} p q r w h e = seek_past w h (row_misfits l i p q r k h e)
 
-pub seek_hits : {l : List ℕ} {i k : ℕ} {s : Scan} → Seeking l i k → k < 90 → s ≡ read_of l i k → fits l s ≡ true → Fits k s.places ≡ matched_of l i 0 90
+pub seek_tried : {l : List ℕ} {i k : ℕ} {s : Scan} → Seeking l i k → k < 90 → s ≡ read_of l i k → fits l s ≡ false → Seeking l i (k + 1)
+seek_tried w h e f = seek_past w h (rw (← e) f)
+
+pub seek_hits : {l : List ℕ} {i k : ℕ} {s : Scan} → Seeking l i k → k < 90 → s ≡ read_of l i k → fits l s ≡ true
+    → Some (record { row = k; places = s.places }) ≡ matched_of l i 0 90
 seek_hits {l} {i} {k} {s} w h e f = sym (w.left ∙ hit (90 - k) (90 - (k + 1)) (omega arith))
   where
-    hit : (n m : ℕ) → n ≡ suc m → matched_of l i k n ≡ Fits k s.places
+    hit : (n m : ℕ) → n ≡ suc m → matched_of l i k n ≡ Some (record { row = k; places = s.places })
     hit n m q = unfold matched_of in rw (q, ← e, f)
 
-pub seek_ends : {l : List ℕ} {i k : ℕ} → Seeking l i k → 90 ≤ k → Misfit ≡ matched_of l i 0 90
+pub seek_ends : {l : List ℕ} {i k : ℕ} → Seeking l i k → 90 ≤ k → None ≡ matched_of l i 0 90
 seek_ends w h = sym (w.left ∙ (rw (sub-eq-zero_of_le h) (unfold matched_of in refl)))
-
--- the loop over the rows that don't begin so
-pub next_starts : {k x y z : ℕ} → k ≤ 90 → NextRow k x y z k
-next_starts h = record { from = omega arith; within = h; skipped = λ j a b. absurd (omega arith) }
-
-pub next_goes : {k x y z n : ℕ} → NextRow k x y z n → n < 90 → begins_of n x y z ≡ false → NextRow k x y z (n + 1)
-next_goes {k} {x} {y} {z} {n} s h e =
-    record {
-      from = omega (arith, s.from);
-      within = omega arith;
-      skipped = λ j a b. by_test (ltb j n) (λ t. s.skipped j a (ltb-true j n t))
-          (λ t. let u = ltb-false j n t in let v : j ≡ n = omega arith in rw v e);
-    }

@@ -1,8 +1,7 @@
 -- A line read by a spelling, and the row of the table that a line fits.
 -- Assumes nothing.
-use Rattle.std.specs.Prelude.{ℕ, zero, suc, ◌+◌, ◌-◌, Bool, true, false, cond, ◌&&◌, ◌||◌, List, [], ◌∷◌, eqb, ltb, length, get_or, drop}
-use Rattle.reading.specs.declared.Matched.{Matched}
-use Rattle.reading.specs.declared.Matched.TheVariants.{Fits, Misfit}
+use Rattle.std.specs.Prelude.{ℕ, zero, suc, ◌+◌, ◌-◌, Bool, true, false, cond, ◌&&◌, ◌||◌, List, [], ◌∷◌, eqb, ltb, length, get_or, drop, Option, Some, None}
+use Rattle.reading.specs.declared.Fit.{Fit}
 use Rattle.spelling.specs.declared.Operand.{Operand}
 use Rattle.spelling.specs.declared.Operand.TheVariants.{Register, Number, Name, Other}
 use Rattle.spelling.specs.declared.Places.{Places}
@@ -77,6 +76,7 @@ abbrev pub fits : List ℕ → Scan → Bool
 fits l s = s.ok && eqb s.at (length l)
 
 -- the first of n rows from k on that it fits
-unfoldable pub matched_of : List ℕ → ℕ → ℕ → ℕ → Matched
-matched_of l i k zero = Misfit
-matched_of l i k (suc n) = cond (fits l (read_of l i k)) (Fits k (read_of l i k).places) (matched_of l i (suc k) n)
+unfoldable pub matched_of : List ℕ → ℕ → ℕ → ℕ → Option Fit
+matched_of l i k zero = None
+matched_of l i k (suc n) =
+    cond (fits l (read_of l i k)) (Some (record { row = k; places = (read_of l i k).places })) (matched_of l i (suc k) n)

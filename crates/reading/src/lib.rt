@@ -4,7 +4,7 @@
 ghost use Rattle.std.specs.Prelude.{◌≡◌, length, ◌≤◌};
 ghost use Rattle.spelling.specs.internal.Rows.{table_bytes};
 ghost use Rattle.reading.specs.Reading.{is_place, failed, took_register, took_number, took_name, took_of, literal_of, byte_of, read_of, matched_of};
-ghost use Rattle.reading.specs.internal.Rows.{begins_of, NextRow};
+ghost use Rattle.reading.specs.internal.Rows.{begins_of};
 
 use spelling::{Operand, Places};
 
@@ -16,11 +16,11 @@ pub struct Scan {
     pub places: Places,
 }
 
-// The row that a line fits and what stands in its places.
+// The row that a line fits, and what stands in its places.
 #[derive(Clone, Copy)]
-pub enum Matched {
-    Fits(usize, Places),
-    Misfit,
+pub struct Fit {
+    pub row: usize,
+    pub places: Places,
 }
 
 // A scan that doesn't go on.
@@ -188,8 +188,7 @@ fn scan_row(table: &[u8], line: &[u8], start: usize, k: usize) -> Scan
         at: start,
         places: empty,
     };
-    let mut j: usize = 0;
-    while j < spelling::ROW_WIDTH {
+    for j in 0..spelling::ROW_WIDTH {
         let ok = s.ok;
         if !ok {
             return s;
@@ -199,7 +198,6 @@ fn scan_row(table: &[u8], line: &[u8], start: usize, k: usize) -> Scan
             return s;
         }
         s = scan_byte(line, c, s);
-        j += 1;
     }
     s
 }
@@ -209,50 +207,32 @@ fn begins(table: &[u8], k: usize, x: u8, y: u8, z: u8) -> bool
     requires { table.now ≡ table_bytes }
     ensures { result ≡ begins_of k x y z }
 {
-    if spelling::pattern(table, k, 0) != x {
-        return false;
-    }
-    if spelling::pattern(table, k, 1) != y {
-        return false;
-    }
-    spelling::pattern(table, k, 2) == z
-}
-
-// The next row from k on that begins with three bytes; past the table if there is none.
-fn next_row(table: &[u8], k: usize, x: u8, y: u8, z: u8) -> usize
-    requires { (table.now ≡ table_bytes) × (k ≤ 90) }
-    ensures { NextRow k x y z result }
-{
-    let mut next = k;
-    while next < spelling::ROW_COUNT {
-        if begins(table, next, x, y, z) {
-            return next;
-        }
-        next += 1;
-    }
-    next
+    spelling::pattern(table, k, 0) == x
+        && spelling::pattern(table, k, 1) == y
+        && spelling::pattern(table, k, 2) == z
 }
 
 // The row that a line fits from a place on. Rows that begin with other bytes are not tried.
-pub fn find_row(table: &[u8], line: &[u8], start: usize) -> Matched
+pub fn find_row(table: &[u8], line: &[u8], start: usize) -> Option<Fit>
     requires { (table.now ≡ table_bytes) × (start ≤ length line.now) }
     ensures { result ≡ matched_of line.now start 0 90 }
 {
     let n = line.len();
     if n - start < 3 {
-        return Matched::Misfit;
+        return None;
     }
     let x = line[start];
     let y = line[start + 1];
     let z = line[start + 2];
-    let mut k = next_row(table, 0, x, y, z);
-    while k < spelling::ROW_COUNT {
-        let s = scan_row(table, line, start, k);
+    for row in 0..spelling::ROW_COUNT {
+        if !begins(table, row, x, y, z) {
+            continue;
+        }
+        let s = scan_row(table, line, start, row);
         if s.ok & (s.at == n) {
             let places = s.places;
-            return Matched::Fits(k, places);
+            return Some(Fit { row, places });
         }
-        k = next_row(table, k + 1, x, y, z);
     }
-    Matched::Misfit
+    None
 }

@@ -22,8 +22,8 @@ use Rattle.numbers.specs.Numbers.{fields_of, instr_of}
 use Rattle.numbers.specs.declared.Fields.{Fields}
 use Rattle.spelling.specs.Words.{word_length}
 use Rattle.spelling.specs.Spellings.{forms_of}
-use Rattle.reading.specs.declared.Matched.{Matched}
-use Rattle.reading.specs.declared.Matched.TheVariants.{Fits}
+use Rattle.std.specs.Prelude.{Option, Some}
+use Rattle.reading.specs.declared.Fit.{Fit}
 use Rattle.spelling.proofs.Rows.{all, all_at}
 use Rattle.printing.specs.Print.{spelling_row, text_of, text_width, columns, printed_of, Prints}
 use Rattle.printing.specs.declared.Printed.{Printed}
@@ -63,7 +63,7 @@ module _ (i : Instr) (h : Printable i) where
   no_label : label_size (text_of i) ≡ 0
   no_label = unlabelled (text_of i) (text_plain i)
 
-  line_is : line_of (text_of i) ≡ Fits (spelling_row (fields_of i)) (places_of i)
+  line_is : line_of (text_of i) ≡ Some (record { row = spelling_row (fields_of i); places = places_of i })
   unfolding line_of
   line_is = rw no_label (line_printed i h.0 h.1)
 
@@ -72,14 +72,14 @@ module _ (i : Instr) (h : Printable i) where
 
   names_none : name_of (text_of i) ≡ []
   unfolding name_of
-  names_none = ap (λ (m : Matched). name_in m (text_of i)) line_is ∙ name_is
+  names_none = ap (λ (m : Option Fit). name_in m (text_of i)) line_is ∙ name_is
 
   target_is : (all : List (List ℕ)) → target_of all (text_of i) (places_of i) ≡ (places_of i).addr
   target_is all = rw name_is
 
   pub forms_are : (all : List (List ℕ)) (at : ℕ) → forms_in (line_of (text_of i)) all (text_of i) at ≡ shown_of i ∷ []
   forms_are all at =
-      ap (λ (m : Matched). forms_in m all (text_of i) at) line_is
+      ap (λ (m : Option Fit). forms_in m all (text_of i) at) line_is
       ∙ (ap (λ (to : ℕ). forms_of (spelling_row (fields_of i)) (places_of i) to at) (target_is all) ∙ forms_printed i at h.0)
 
   pub size_one : size_of (text_of i) ≡ 1

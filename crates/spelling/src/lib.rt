@@ -1,7 +1,7 @@
 // 003's spellings of its instructions and macros in one table, and what a word of a line can be.
 #![tactic(auto)]
 
-ghost use Rattle.std.specs.Prelude.{◌≡◌, length, get_or, drop, ◌+◌, ◌≤◌};
+ghost use Rattle.std.specs.Prelude.{◌≡◌, length, get_or, drop, ◌+◌, ◌≤◌, take_while};
 ghost use Rattle.spelling.specs.Spellings.{pattern_of};
 ghost use Rattle.spelling.specs.Words.{in_word, word_length, digit_of, decimal_of, numeral_of, operand_of};
 ghost use Rattle.spelling.specs.internal.Rows.{table_bytes};
@@ -163,21 +163,19 @@ fn in_word(only: bool, c: u8) -> bool
     ((65 <= c) & (c <= 90)) | ((97 <= c) & (c <= 122)) | (!only & ((48 <= c) & (c <= 57)))
 }
 
+// How many bytes the word at the front of a text has.
+fn front_size(text: &[u8], only: bool) -> usize
+    ensures { result ≡ length (take_while (in_word only) text.now) }
+{
+    text.iter().take_while(|c| in_word(only, **c)).count()
+}
+
 // How many bytes the word at a place of a line has.
 pub fn word_size(line: &[u8], at: usize, only: bool) -> usize
     requires { at ≤ length line.now }
     ensures { (result ≡ word_length only (drop at line.now)) × (at + result ≤ length line.now) }
 {
-    let n = line.len();
-    let mut i = at;
-    while i < n {
-        let c = line[i];
-        if !in_word(only, c) {
-            return i - at;
-        }
-        i += 1;
-    }
-    i - at
+    front_size(&line[at..], only)
 }
 
 // The value of a hexadecimal digit, 16 for any other byte.

@@ -8,8 +8,8 @@ use lib.Dec.{eqb, ltb}
 use lib.ListN.{length, get_or, take, length-append}
 use borrow.Author.Tests.{ltb-true, ltb-false, eqb-false}
 use Rattle.slices.proofs.Bools.{by_test}
-use Rattle.reading.specs.declared.Matched.{Matched}
-use Rattle.reading.specs.declared.Matched.TheVariants.{Fits, Misfit}
+use Rattle.std.specs.Prelude.{Option, Some, None}
+use Rattle.reading.specs.declared.Fit.{Fit}
 use Rattle.labels.specs.Lines.{lines_of, label_of, line_of, size_in, size_of, word_count}
 use Rattle.labels.specs.Labels.{same, given_at, address_of}
 use Rattle.labels.specs.internal.Search.{first_line, more, count_from}
@@ -94,9 +94,9 @@ unfolding address_of word_count
 address_none name all e = rw (← e)
 
 -- the forms of a line are as many as its words
-forms_length : (m : Matched) (l : List ℕ) (all : List (List ℕ)) (at : ℕ) → m ≡ line_of l → length (forms_in m all l at) ≡ size_in m
-forms_length (Fits k p) l all at e = row_length k (matched_row l e refl) p p _ _ at 0
-forms_length Misfit l all at e = refl
+forms_length : (m : Option Fit) (l : List ℕ) (all : List (List ℕ)) (at : ℕ) → m ≡ line_of l → length (forms_in m all l at) ≡ size_in m
+forms_length (Some f) l all at e = row_length f.row (matched_row l e refl) f.places f.places _ _ at 0
+forms_length None l all at e = refl
 
 pub line_length : (l : List ℕ) (all : List (List ℕ)) (at : ℕ) → length (forms_in (line_of l) all l at) ≡ size_of l
 unfolding size_of

@@ -1,20 +1,17 @@
--- The loop over the lines that stores their forms: what is left of them, stored from here, leaves the banks of the whole; and the loop that
--- clears a bank.
+-- The loop over the lines that stores their forms: what is left of them, stored from here, leaves the banks of the whole.
 -- Assumes nothing.
-use Prim.Native.Nat.{ℕ, suc, ◌+◌, ◌-◌, ◌≤◌, ◌<◌, min}
+use Prim.Native.Nat.{ℕ, ◌+◌, ◌-◌, ◌≤◌, ◌<◌, min}
 use native.Mathlib.Omega.{arith}
-use native.Mathlib.Numerals.{add-one}
 use mathlib.Core.Path.{◌≡◌, refl, sym, ap, ◌∙◌}
-use mathlib.Core.List.{List, [], ◌∷◌, ◌++◌, append_assoc, append-nil}
-use lib.ListN.{length, get_or, take, drop, set, drop_of_length-le, length-append, length-replicate, length-drop, replicate-append-replicate}
-use lib.Seq.{drop-cons, set_at}
+use mathlib.Core.List.{List, [], ◌∷◌, ◌++◌}
+use lib.ListN.{length, take, drop}
 use Rattle.isa.specs.declared.Instr.{Instr}
 use Rattle.labels.specs.Lines.{lines_of, line_of, size_of, word_count}
 use Rattle.labels.specs.internal.Search.{cut_of}
 use Rattle.labels.proofs.Cuts.{lines_after, lines_over}
 use Rattle.words.specs.Program.{forms_in, forms_from, program_of}
 use Rattle.words.specs.internal.Storing.{stored_in, Ready}
-use Rattle.words.proofs.Storing.{stored_append, zeros}
+use Rattle.words.proofs.Storing.{stored_append}
 use Rattle.words.proofs.Counts.{line_length}
 
 -- the lines from a place on are left, to be stored from `at` on
@@ -74,38 +71,3 @@ pub storing_ends : (byte : Instr → ℕ) (t : List ℕ) {b₀ b : List ℕ} {fr
     → b ≡ stored_in byte (program_of t) 0 b₀
 storing_ends byte t {b₀} {b} {from} {at} s h =
     sym (s.left ∙ (ap (λ (ls : List (List ℕ)). stored_in byte (forms_from (lines_of t) ls at) at b) (lines_over t from h) ∙ storing_none byte (lines_of t) at b))
-
--- the bytes before place i of a bank are zeros
-pub record Clearing (l₀ : List ℕ) (i : ℕ) (l : List ℕ) : Type 0 where
-  pub within : i ≤ length l₀
-  pub is : l ≡ zeros i ++ drop i l₀
-
-length_zeros : (i : ℕ) → length (zeros i) ≡ i
-length_zeros i = length-replicate {A = ℕ} i 0
-
-zeros_more : (i : ℕ) → zeros i ++ (0 ∷ []) ≡ zeros (suc i)
-zeros_more i = replicate-append-replicate {A = ℕ} i 1 0 ∙ ap zeros (add-one i)
-
-pub clearing_room : {l₀ l : List ℕ} {i : ℕ} → Clearing l₀ i l → length l ≡ length l₀
-clearing_room {l₀} {l} {i} r =
-    let w = r.within in
-    let q : length (zeros i ++ drop i l₀) ≡ length l₀ = omega (arith, length-append (zeros i) (drop i l₀), length_zeros i, length-drop i l₀) in
-    ap length r.is ∙ q
-
-pub clear_starts : {l : List ℕ} → Clearing l 0 l
-clear_starts = record { within = omega arith; is = refl }
-
-pub clear_goes : {l₀ l : List ℕ} {i : ℕ} → Clearing l₀ i l → i < length l₀ → Clearing l₀ (i + 1) (set l i 0)
-clear_goes {l₀} {l} {i} r h =
-    let d : zeros i ++ (0 ∷ drop (suc i) l₀) ≡ zeros (suc i) ++ drop (suc i) l₀ =
-    sym (append_assoc (zeros i) (0 ∷ []) (drop (suc i) l₀)) ∙ ap (λ (z : List ℕ). z ++ drop (suc i) l₀) (zeros_more i) in
-    record {
-      within = omega arith;
-      is = rw (r.is, drop-cons l₀ i 0 h, add-one i) (set_at (zeros i) (get_or l₀ i 0) (drop (suc i) l₀) 0 i (length_zeros i) ∙ d);
-    }
-
-pub clear_ends : {l₀ l : List ℕ} {i : ℕ} → Clearing l₀ i l → length l₀ ≤ i → l ≡ zeros (length l₀)
-clear_ends {l₀} {l} {i} r h =
-    let w = r.within in
-    let e : i ≡ length l₀ = omega arith in
-    r.is ∙ (ap (λ (z : List ℕ). zeros i ++ z) (drop_of_length-le l₀ h) ∙ (append-nil (zeros i) ∙ ap zeros e))

@@ -17,8 +17,8 @@ use Rattle.isa.specs.declared.Instr.{Instr}
 use Rattle.isa.specs.declared.Instr.TheVariants.{Nop}
 use Rattle.numbers.specs.Numbers.{instr_of}
 use Rattle.spelling.specs.Spellings.{Macro, macros, row_count, first_macro, form_at, function_at, number_in, table_form, forms_of}
-use Rattle.reading.specs.declared.Matched.{Matched}
-use Rattle.reading.specs.declared.Matched.TheVariants.{Fits, Misfit}
+use Rattle.std.specs.Prelude.{Option, Some, None}
+use Rattle.reading.specs.declared.Fit.{Fit}
 use Rattle.spelling.specs.declared.Places.{Places}
 use Rattle.reading.proofs.InRange.{InRange, MatchedInRange, matched_in_range}
 use Rattle.spelling.proofs.Rows.{all, all_at}
@@ -56,9 +56,9 @@ row_taken k p to at h =
     rw (e, all_at taken Nop (forms p.d p.a (function_at k) p.b (number_in p to)) refl t (form_at k)))
     (λ e. rw e (all_at (all taken) [] (mapped (λ (m : Macro). m.forms p to at) macros) refl (macros_taken p to at hd ha hb) (k - first_macro)))
 
-line_taken : (m : Matched) (whole : List (List ℕ)) (l : List ℕ) (at : ℕ) → MatchedInRange m → all taken (forms_in m whole l at) ≡ true
-line_taken (Fits k p) whole l at h = row_taken k p (target_of whole l p) at h
-line_taken Misfit whole l at h = refl
+line_taken : (m : Option Fit) (whole : List (List ℕ)) (l : List ℕ) (at : ℕ) → MatchedInRange m → all taken (forms_in m whole l at) ≡ true
+line_taken (Some f) whole l at h = row_taken f.row f.places (target_of whole l f.places) at h
+line_taken None whole l at h = refl
 
 all_append : (is js : List Instr) → all taken is ≡ true → all taken js ≡ true → all taken (is ++ js) ≡ true
 all_append [] js e f = f

@@ -1,15 +1,14 @@
 -- The words of a text: the forms that its lines stand for, and their bytes in the two banks.
 -- 02 [1]: "The assembler fills both banks, words after the last line being 00."
 -- Assumes nothing.
-use Rattle.std.specs.Prelude.{Ok, Err, ℕ, ◌+◌, cond, List, [], ◌∷◌, ◌++◌, eqb, length, take, drop}
+use Rattle.std.specs.Prelude.{ℕ, ◌+◌, cond, List, [], ◌∷◌, ◌++◌, eqb, length, take, drop, Option, Some, None, Ok, Err}
 use Rattle.slices.specs.Lists.{mapped}
 use Rattle.slices.specs.Parts.{padded}
 use Rattle.slices.specs.Sizes.{bank_size}
 use Rattle.isa.specs.Encode.{Encoded, encode_of}
 use Rattle.isa.specs.declared.Instr.{Instr}
 use Rattle.spelling.specs.Spellings.{forms_of}
-use Rattle.reading.specs.declared.Matched.{Matched}
-use Rattle.reading.specs.declared.Matched.TheVariants.{Fits, Misfit}
+use Rattle.reading.specs.declared.Fit.{Fit}
 use Rattle.spelling.specs.declared.Places.{Places}
 use Rattle.labels.specs.Lines.{lines_of, line_of, size_of}
 use Rattle.labels.specs.Labels.{address_of}
@@ -22,9 +21,9 @@ abbrev pub target_of : List (List ℕ) → List ℕ → Places → ℕ
 target_of all l p = target_by all (take p.size (drop p.from l)) p.addr
 
 -- the forms of a line that stands at an address
-abbrev pub forms_in : Matched → List (List ℕ) → List ℕ → ℕ → List Instr
-forms_in (Fits k p) all l at = forms_of k p (target_of all l p) at
-forms_in Misfit all l at = []
+abbrev pub forms_in : Option Fit → List (List ℕ) → List ℕ → ℕ → List Instr
+forms_in (Some f) all l at = forms_of f.row f.places (target_of all l f.places) at
+forms_in None all l at = []
 
 -- the forms of lines one behind another, from an address on
 unfoldable pub forms_from : List (List ℕ) → List (List ℕ) → ℕ → List Instr

@@ -10,7 +10,6 @@ ghost use Rattle.words.specs.Program.{opcode_of, argument_of, target_by, program
 ghost use Rattle.words.specs.internal.Storing.{stored_in, Ready, LineStored};
 
 use isa::Instr;
-use reading::Matched;
 use spelling::Places;
 
 // The two bytes of an instruction.
@@ -62,10 +61,9 @@ fn address(text: &[u8], name: &[u8], addresses: &[u8], starts: &[usize], numbers
     requires { (0 < length name.now) × Ready text.now addresses.now starts.now numbers.now }
     ensures { result ≡ address_of name.now (lines_of text.now) }
 {
-    let line = labels::given_at(text, name, starts, numbers);
-    if line == 0 {
+    let Some(line) = labels::given_at(text, name, starts, numbers) else {
         return 0;
-    }
+    };
     slices::byte_at(addresses, line - 1)
 }
 
@@ -102,18 +100,14 @@ fn store_line(
     requires { (table.now ≡ table_bytes) × (at ≤ 256) × Ready text.now addresses.now starts.now numbers.now }
     ensures { LineStored text.now line.now at result opcodes.old arguments.old opcodes.new arguments.new }
 {
-    let m = labels::read_line(table, line);
-    match m {
-        Matched::Fits(k, p) => {
-            let from = p.from;
-            let size = p.size;
-            let name = slices::part(line, from, size);
-            let to = operand_address(text, name, p.addr, addresses, starts, numbers);
-            store_row(k, p, to, at, opcodes, arguments);
-            at + labels::row_size(k)
-        }
-        Matched::Misfit => at,
-    }
+    let Some(fit) = labels::read_line(table, line) else {
+        return at;
+    };
+    let places = fit.places;
+    let name = slices::part(line, places.from, places.size);
+    let to = operand_address(text, name, places.addr, addresses, starts, numbers);
+    store_row(fit.row, places, to, at, opcodes, arguments);
+    at + labels::row_size(fit.row)
 }
 
 // The forms of all lines are stored.
@@ -153,10 +147,5 @@ pub fn store_lines(
 pub fn clear(bank: &mut [u8])
     ensures { bank.new ≡ replicate (length bank.old) 0 }
 {
-    let n = bank.len();
-    let mut i: usize = 0;
-    while i < n {
-        bank[i] = 0;
-        i += 1;
-    }
+    bank.fill(0);
 }

@@ -1,15 +1,16 @@
 -- 24, then 25, then 26, by what the three looks at the text tell.
-use Rattle.assembling.proofs.Faults.{bad_looked, fault_looked, long_looked, good_looked}
+use Rattle.labels.proofs.Numbered.{number_told, none_told, none_there}
+use Rattle.assembling.proofs.Faults.{bad_looked, line_refused, fault_looked, long_looked, good_looked}
 use Rattle.assembling.proofs.look.Goals as goal
 
-pub returns-then-bad-ne0 : goal.returns-then-bad-ne0
-returns-then-bad-ne0 c = bad_looked c.inspect-survey.ensures c.if-bad-ne0.true
+pub returns-in_err-count : goal.returns-in_err-count
+returns-in_err-count c = line_refused _ _ _ _ c.from_residual.ensures.1 (bad_looked c.in_err-count.ensures.0 c.in_err-count.ensures.1)
 
-pub returns-then-fault-ne0 : goal.returns-then-fault-ne0
-returns-then-fault-ne0 c = fault_looked c.inspect-survey.ensures c.if-bad-ne0.false c.label_fault-fault.ensures c.if-fault-ne0.true
+pub returns-in-Some : goal.returns-in-Some
+returns-in-Some c = let s = number_told c.label_fault.ensures c.in-Some.is in fault_looked c.in_ok-count.ensures s.0 s.1
 
-pub returns-then-words-gt256 : goal.returns-then-words-gt256
-returns-then-words-gt256 c = long_looked c.inspect-survey.ensures c.if-bad-ne0.false c.label_fault-fault.ensures c.if-fault-ne0.false c.if-words-gt256.true
+pub returns-then-count-gt256 : goal.returns-then-count-gt256
+returns-then-count-gt256 c = long_looked c.in_ok-count.ensures (none_told c.label_fault.ensures (none_there _ c.in_default.not-Some)) c.if-count-gt256.true
 
 pub returns : goal.returns
-returns c = good_looked c.inspect-survey.ensures c.if-bad-ne0.false c.label_fault-fault.ensures c.if-fault-ne0.false c.if-words-gt256.false c.index.ensures
+returns c = good_looked c.in_ok-count.ensures (none_told c.label_fault.ensures (none_there _ c.in_default.not-Some)) c.if-count-gt256.false c.index.ensures

@@ -1,5 +1,4 @@
 -- A line a turn is entered.
-use Prim.Native.Nat.{◌-◌}
 use Rattle.labels.proofs.Indexes.{index_starts, index_goes, index_ends}
 use Rattle.labels.proofs.index.Goals as goal
 

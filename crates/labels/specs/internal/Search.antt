@@ -1,11 +1,15 @@
 -- Searches over the lines of a text as the code makes them.
 -- Assumes nothing.
-use Rattle.std.specs.Prelude.{ℕ, suc, ◌+◌, ◌*◌, ◌-◌, ◌%◌, ◌≤◌, ◌<◌, ◌≡◌, Bool, cond, ◌&&◌, ◌||◌, List, [], ◌∷◌, eqb, ltb, length, get_or, take, drop, set, replicate}
+use Rattle.std.specs.Prelude.{ℕ, suc, ◌+◌, ◌*◌, ◌-◌, ◌%◌, ◌≤◌, ◌<◌, ◌≡◌, Bool, cond, ◌&&◌, ◌||◌, List, [], ◌∷◌, eqb, ltb, length, get_or, take, drop, set, replicate, Option, Some, None, Result, Ok, Err}
 use Rattle.spelling.specs.Spellings.{forms_of}
 use Rattle.spelling.specs.declared.Places.{Places}
-use Rattle.labels.specs.declared.Survey.{Survey}
+use Rattle.labels.specs.declared.BadLine.{BadLine}
 use Rattle.labels.specs.Lines.{lines_of, label_of, is_labelled, size_of}
 use Rattle.labels.specs.Labels.{given_at, repeats, misses}
+
+-- a number counted from 1 as an answer, none for 0
+abbrev pub unless_zero : ℕ → Option ℕ
+unless_zero n = cond (eqb n 0) None (Some n)
 
 -- how many bytes stand before the first line feed
 unfoldable pub cut_of : List ℕ → ℕ
@@ -86,8 +90,13 @@ pub record IsLine (t : List ℕ) (k : ℕ) (l : List ℕ) : Type 0 where
 abbrev pub WordsOf : ℕ → ℕ → Type 0
 WordsOf k n = (n ≤ 3) × ((p : Places) (to at : ℕ) → n ≡ length (forms_of k p to at))
 
+-- the words of all lines, where each is an instruction or macro, and the words noted before each
+pub record Surveyed (t : List ℕ) (counted : ℕ) (addresses : List ℕ) : Type 0 where
+  pub good : bad_line t ≡ 0
+  pub words : counted ≡ count_from 0 (lines_of t)
+  pub known : Addresses t (length (lines_of t)) addresses
+
 -- what a look at every line tells
-pub record Inspected (t : List ℕ) (r : Survey) (addresses : List ℕ) : Type 0 where
-  pub bad : r.bad ≡ bad_line t
-  pub words : r.bad ≡ 0 → r.words ≡ count_from 0 (lines_of t)
-  pub known : r.bad ≡ 0 → Addresses t (length (lines_of t)) addresses
+abbrev pub Inspected : List ℕ → Result ℕ BadLine → List ℕ → Type 0
+Inspected t (Ok words) addresses = Surveyed t words addresses
+Inspected t (Err e) addresses = (e.number ≡ bad_line t) × (0 < e.number)

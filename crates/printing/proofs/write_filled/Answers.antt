@@ -1,6 +1,5 @@
 -- A byte of the spelling a turn: what is left of it, filled and written from here, leaves the page of the whole.
 use borrow.Author.Rules.{rules}
-use Prim.Native.Nat.{◌-◌}
 use Rattle.printing.proofs.Filling.{fill_goes, fill_dot, fill_full}
 use Rattle.printing.proofs.write_filled.Goals as goal
 

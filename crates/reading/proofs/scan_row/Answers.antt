@@ -1,6 +1,5 @@
 use Rattle.reading.proofs.Scans.{scan_stop, scan_dot, scan_full, scan_pass}
 use Rattle.reading.specs.Reading.{read_of}
-use Prim.Native.Nat.{◌-◌}
 use borrow.Author.Rules.{rules}
 use Rattle.reading.proofs.scan_row.Goals as goal
 

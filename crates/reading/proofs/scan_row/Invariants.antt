@@ -1,10 +1,6 @@
 use Rattle.reading.proofs.Scans.{Scanning}
 use Rattle.reading.specs.Reading.{scanned, empty_places}
-use Prim.Native.Nat.{◌-◌}
 use Rattle.reading.proofs.scan_row.Given as goal
 
 abbrev pub invariant-loop-j : goal.invariant-loop-j
 invariant-loop-j l = Scanning l.line l.k (scanned l.start empty_places) l.j l.s
-
-abbrev pub decreases-loop-j : goal.decreases-loop-j
-decreases-loop-j l = 16 - l.j
