@@ -1,13 +1,23 @@
 -- The search for the seat that runs: what the code looks at tells whether a seat can go on, and what is left of the search is the search.
 -- Assumes nothing.
-use mathlib.Core.Path.{◌≡◌, refl, sym, ◌∙◌}
+use mathlib.Core.Path.{◌≡◌, refl, ap, ◌∙◌}
 use mathlib.Core.Bool.{Bool, true, false, not, ◌&&◌, ◌||◌}
-use mathlib.Core.List.{List}
-use mathlib.Core.Option.{none, some}
-use Prim.Native.Nat.{ℕ, zero, suc, ◌-◌, ◌/◌, ◌%◌, ◌≤◌, ◌<◌}
+use mathlib.Core.List.{List, ◌++◌}
+use Prim.Native.Nat.{ℕ, zero, suc, ◌+◌, ◌-◌, ◌/◌, ◌%◌, ◌≤◌, ◌<◌}
 use native.Mathlib.Omega.{arith}
-use lib.Dec.{eqb, leb}
+use lib.Dec.{eqb, leb, ltb}
 use lib.ListN.{length, get_or, take, drop}
+use Rattle.std.specs.Iterator.Adapters.{chain_first, chain_second, chain_first_done, chain_second_done, chain_steps}
+use Rattle.std.specs.List.{find, range_with_len}
+use Rattle.std.specs.declared.iter.Chain.{Chain}
+use Rattle.std.specs.declared.ops.Range.{Range}
+use Rattle.std.proofs.iter.Yields.{nat_range_steps}
+use Rattle.std.proofs.lemmas.Iterator.{YieldsList, YieldsList-from_range}
+use Rattle.std.proofs.lemmas.Iterator.Consumers.{YieldsList-from_chain}
+use Rattle.std.proofs.Math.ListN.{get_or-append, length-append}
+use Rattle.std.proofs.Math.Seq.{get_or-append_right}
+use Rattle.std.proofs.lemmas.List.FromFn.{length-range_with_len, get_or-range_with_len}
+use borrow.Author.Tests.{eqb-true, eqb-false, ltb-true, ltb-false}
 use Rattle.slices.specs.Sizes.{bank_size}
 use Rattle.slices.proofs.Bools.{by_test}
 use Rattle.slices.proofs.Parts.{length_part}
@@ -23,7 +33,8 @@ use Rattle.seats.specs.Room.{Room, bank_at, begin_of, length_at, bank_of, share_
 use Rattle.seats.specs.Turn.{is_go, can_go, goes_in, seat_after, first_from}
 use Rattle.seats.specs.internal.Places.{Fitting}
 use Rattle.seats.proofs.TurnCases.{places, after_below}
-use Rattle.scheduling.specs.internal.Search.{is_overflow_jump, is_transfer, goes_at, goes_by, seat_or}
+use Rattle.seats.proofs.FairTurns.{not_last, last}
+use Rattle.scheduling.specs.internal.Search.{is_overflow_jump, is_transfer, goes_at, goes_by}
 
 -- ---- what an opcode tells, whatever stands at the letters: one computed test of its upper six bits each
 
@@ -84,33 +95,64 @@ alike g h n e (suc k) i b =
     (λ q. rw (first_from, e i b ∙ q, q))
     (λ q. rw (first_from, e i b ∙ q, q) (alike g h n e k (seat_after n i) (after_below n i b)))
 
--- where the search stands: at seat i, with so many seats left
-pub record Searching (goes : ℕ → Bool) (n from i left : ℕ) : Type 0 where
-  pub here : i < n
-  pub rest : first_from goes n i left ≡ first_from goes n from n
+-- the seats are asked in order, from one on and then from the first to it
+abbrev pub asked : (n from : ℕ) → List ℕ
+asked n from = range_with_len from (n - from) ++ range_with_len 0 from
 
-passed_by : (goes : ℕ → Bool) (n i left : ℕ) → 0 < left → goes i ≡ false → first_from goes n i left ≡ first_from goes n (seat_after n i) (left - 1)
+pub in_order : (n from : ℕ) (s : Chain (Range ℕ) (Range ℕ)) → chain_first s ≡ record { start = from; end = n }
+    → chain_second s ≡ record { start = 0; end = from } → chain_first_done s ≡ false → chain_second_done s ≡ false
+    → YieldsList (chain_steps nat_range_steps nat_range_steps) (λ x. x) s (asked n from)
+in_order n from s f g d e =
+    YieldsList-from_chain (YieldsList-from_range from n (n - from) f refl) (YieldsList-from_range 0 from from g (omega arith)) d e
+
+pub round_below : (n from k x : ℕ) → from < n → k < length (asked n from) → x ≡ get_or (asked n from) k x → x < n
+round_below n from k x h l e =
+    let a = range_with_len from (n - from) in
+    let b = range_with_len 0 from in
+    let p : length a ≡ n - from = length-range_with_len from (n - from) in
+    let q : length b ≡ from = length-range_with_len 0 from in
+    let r : length (a ++ b) ≡ length a + length b = length-append a b in
+    by_test (ltb k (n - from))
+    (λ t.
+    let u : k < n - from = ltb-true k (n - from) t in
+    let v : k < length a = omega arith in
+    let z : x ≡ from + k = e ∙ get_or-append a b x k v ∙ get_or-range_with_len from (n - from) k x u in
+    omega arith)
+    (λ t.
+    let u : n - from ≤ k = ltb-false k (n - from) t in
+    let i : ℕ = k - length a in
+    let v : i < from = omega arith in
+    let z : x ≡ 0 + i = e ∙ get_or-append_right a b k x (omega arith) ∙ get_or-range_with_len 0 from i x v in
+    omega arith)
+
+-- the seats in order, up to the last
+found_up : (goes : ℕ → Bool) (n m j : ℕ) → j + m ≤ n → find goes (range_with_len j m) ≡ first_from goes n j m
 unfolding first_from
-passed_by goes n i zero h e = absurd (omega arith)
-passed_by goes n i (suc k) h e = let q : suc k - 1 ≡ k = omega arith in rw (first_from, e, q)
+found_up goes n zero j h = refl
+found_up goes n (suc m) j h =
+    by_test (goes j)
+    (λ q. rw (first_from, q))
+    (λ q. rw (first_from, q) (by_test (eqb m 0) (λ z. rw (eqb-true m 0 z, first_from)) (λ z.
+    let p = eqb-false m 0 z in
+    let e : seat_after n j ≡ j + 1 = not_last n j (omega arith) in
+    rw e (found_up goes n m (j + 1) (omega arith)))))
 
-found_at : (goes : ℕ → Bool) (n i left : ℕ) → 0 < left → goes i ≡ true → first_from goes n i left ≡ some i
+-- k seats up to the last, and then m from the first on
+found_round : (goes : ℕ → Bool) (n m k i : ℕ) → m ≤ n → i + suc k ≡ n
+    → find goes (range_with_len i (suc k) ++ range_with_len 0 m) ≡ first_from goes n i (suc k + m)
 unfolding first_from
-found_at goes n i zero h e = absurd (omega arith)
-found_at goes n i (suc k) h e = rw (first_from, e)
+found_round goes n m zero i g h =
+    let a : 1 + m ≡ suc m = omega arith in
+    let e : seat_after n i ≡ 0 = last n i h in
+    rw a (by_test (goes i) (λ q. rw (first_from, q)) (λ q. rw (first_from, q, e) (found_up goes n m 0 (omega arith))))
+found_round goes n m (suc k) i g h =
+    let a : suc (suc k) + m ≡ suc (suc k + m) = omega arith in
+    let e : seat_after n i ≡ i + 1 = not_last n i (omega arith) in
+    rw a (by_test (goes i) (λ q. rw (first_from, q)) (λ q. rw (first_from, q, e) (found_round goes n m k (i + 1) g (omega arith))))
 
-none_left : (goes : ℕ → Bool) (n i left : ℕ) → left ≤ 0 → first_from goes n i left ≡ none
-unfolding first_from
-none_left goes n i zero h = refl
-none_left goes n i (suc k) h = absurd (omega arith)
-
-module _ {goes : ℕ → Bool} {n from i left : ℕ} (s : Searching goes n from i left) where
-  pub search_goes : (next : ℕ) → next ≡ seat_after n i → 0 < left → goes i ≡ false → Searching goes n from next (left - 1)
-  search_goes next e h q =
-      record { here = rw e (after_below n i s.here); rest = rw e (sym (passed_by goes n i left h q) ∙ s.rest) }
-
-  pub search_finds : 0 < left → goes i ≡ true → i ≡ seat_or n (first_from goes n from n)
-  search_finds h q = rw (← s.rest, found_at goes n i left h q)
-
-  pub search_ends : left ≤ 0 → n ≡ seat_or n (first_from goes n from n)
-  search_ends h = rw (← s.rest, none_left goes n i left h)
+pub found_is : (goes : ℕ → Bool) (n from : ℕ) → from < n → find goes (asked n from) ≡ first_from goes n from n
+found_is goes n from h =
+    let k : ℕ = n - suc from in
+    let e : n - from ≡ suc k = omega arith in
+    let f : suc k + from ≡ n = omega arith in
+    rw e (found_round goes n from k from (omega arith) (omega arith) ∙ ap (first_from goes n from) f)

@@ -3,6 +3,7 @@ ghost use Rattle.std.specs.Prelude.{◌≡◌, ◌≤◌, ◌<◌, ◌^◌, eqb}
 ghost use Rattle.seats.specs.Room.{max_seats, begin_of};
 
 // Where seat i's part begins: behind those of the seats before it.
+#[tactic(auto, using(crate::proofs::Sums::begin_is))]
 pub fn begin_of(lengths: [usize; 8], i: usize) -> usize
     requires { (i ≤ max_seats) × (begin_of lengths i < 2 ^ 64) }
     ensures { result ≡ begin_of lengths i }

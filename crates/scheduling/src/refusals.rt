@@ -9,10 +9,11 @@ ghost use Rattle.scheduling.specs.Numbers.{room_of};
 use super::lengths::adds_up;
 use super::{SeatLengths, SeatNumbers};
 use run_numbers::StateNumbers;
-use seats::{MAX_SEATS, MAX_SLICE};
+use seats::{MAX_SEATS, MAX_SLICE, TurnRefusal};
 use slices::BANK_SIZE;
 
 // Whether a buffer is not as long as n seats fill it.
+#[tactic(auto, unfolding(seats::specs::Turn::bad_buffers))]
 fn bad_buffers(
     n: usize,
     opcodes: &[u8],
@@ -70,8 +71,9 @@ fn bad_positions(
     (0..n).any(|i| bad_position(i, keys, rolls, states, positions))
 }
 
-// 28, 29, 17 or 18 for a call that breaks a rule, the first that it breaks, or 0.
-pub fn refusal(
+// Whether a call keeps the rules, or the first that it breaks.
+#[tactic(auto, unfolding(seats::specs::Turn::turn_fault))]
+pub fn check_call(
     n: usize,
     slice: u32,
     opcodes: &[u8],
@@ -82,24 +84,24 @@ pub fn refusal(
     rolls: &[u16],
     lengths: SeatLengths,
     seats: SeatNumbers,
-) -> u8
+) -> Result<(), TurnRefusal>
     ensures { result ≡ turn_fault n slice (room_of opcodes.now arguments.now keys.now ram.now stack.now rolls.now lengths seats) }
 {
     if (n == 0) | (MAX_SEATS < n) {
-        return 28;
+        return Err(TurnRefusal::BadSeats);
     }
     if (slice == 0) | (MAX_SLICE < slice) {
-        return 29;
+        return Err(TurnRefusal::BadSlice);
     }
     if bad_buffers(n, opcodes, arguments, keys, ram, stack, rolls, lengths) {
-        return 17;
+        return Err(TurnRefusal::BadBuffers);
     }
     let key_lengths = lengths.0;
     let roll_lengths = lengths.1;
     let states = seats.0;
     let roll_positions = seats.1;
     if bad_positions(n, key_lengths, roll_lengths, states, roll_positions) {
-        return 18;
+        return Err(TurnRefusal::BadPositions);
     }
-    0
+    Ok(())
 }

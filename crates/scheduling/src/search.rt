@@ -1,12 +1,12 @@
 // The search for the seat that runs.
-ghost use Rattle.std.specs.Prelude.{◌≡◌, ◌≤◌, ◌<◌, length};
+ghost use Rattle.std.specs.Prelude.{◌≡◌, ◌+◌, ◌≤◌, ◌<◌, length};
 ghost use Rattle.slices.specs.Lists.{mapped};
 ghost use Rattle.run_numbers.specs.Runs.{state_of};
 ghost use Rattle.seats.specs.Room.{max_seats, bank_at};
 ghost use Rattle.seats.specs.Turn.{first_from};
-ghost use Rattle.scheduling.specs.internal.Search.{is_overflow_jump, is_transfer, goes_at, goes_by, seat_or};
+ghost use Rattle.scheduling.specs.internal.Search.{is_overflow_jump, is_transfer, goes_at, goes_by};
 
-use super::places::{seat_after, state_at};
+use super::places::state_at;
 use super::{SeatLengths, SeatNumbers};
 use alu::is_settled;
 use model::State;
@@ -40,32 +40,33 @@ fn can_go(opcode: u8, s: State, full: bool) -> bool
     !(halted | unsettled | no_room)
 }
 
-// The first of n seats, from a seat on and round them, that can go on; n if none can.
+// Whether seat i can go on.
+fn goes(opcodes: &[u8], roll_lengths: [usize; 8], i: usize, seats: SeatNumbers) -> bool
+    requires { (i < max_seats) × (bank_at (i + 1) ≤ length opcodes.now) }
+    ensures { result ≡ goes_by opcodes.now roll_lengths (mapped state_of seats.0) seats.1 i }
+{
+    let states = seats.0;
+    let roll_positions = seats.1;
+    let bank = BANK_SIZE * i;
+    let s = state_at(states, i);
+    let opcode = load(&opcodes[bank..bank + BANK_SIZE], s.pc);
+    let full = roll_lengths[i] <= roll_positions[i];
+    can_go(opcode, s, full)
+}
+
+// The first of n seats, from a seat on and round them, that can go on, if one can.
 pub fn next_seat(
     opcodes: &[u8],
     lengths: SeatLengths,
     n: usize,
     from: usize,
     seats: SeatNumbers,
-) -> usize
+) -> Option<usize>
     requires { (from < n) × (n ≤ max_seats) × (length opcodes.now ≡ bank_at n) }
-    ensures { result ≡ seat_or n (first_from (goes_by opcodes.now lengths.1 (mapped state_of seats.0) seats.1) n from n) }
+    ensures { result ≡ first_from (goes_by opcodes.now lengths.1 (mapped state_of seats.0) seats.1) n from n }
 {
     let roll_lengths = lengths.1;
-    let states = seats.0;
-    let roll_positions = seats.1;
-    let mut i = from;
-    let mut left = n;
-    while 0 < left {
-        let bank = BANK_SIZE * i;
-        let s = state_at(states, i);
-        let opcode = load(&opcodes[bank..bank + BANK_SIZE], s.pc);
-        let full = roll_lengths[i] <= roll_positions[i];
-        if can_go(opcode, s, full) {
-            return i;
-        }
-        i = seat_after(n, i);
-        left = left - 1;
-    }
-    n
+    (from..n)
+        .chain(0..from)
+        .find(|i| goes(opcodes, roll_lengths, *i, seats))
 }

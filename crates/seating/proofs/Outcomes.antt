@@ -1,17 +1,15 @@
 -- A turn's outcome from what its parts tell: a refusal, that no seat was found, or the run of the seat that was.
 -- Assumes nothing.
 use mathlib.Core.Path.{◌≡◌, refl, sym, ap, ◌∙◌}
-use mathlib.Core.Bool.{Bool}
-use mathlib.Core.Logic.{◌≢◌}
 use mathlib.Core.List.{List}
-use mathlib.Core.Option.{Option, none, some}
-use Prim.Native.Nat.{ℕ, zero, suc, ◌+◌, ◌%◌, ◌≤◌, ◌<◌}
+use Prim.Native.Nat.{ℕ, ◌+◌, ◌%◌, ◌≤◌, ◌<◌}
 use native.Mathlib.Nat.{mod-lt, min-le_left}
 use native.Mathlib.Omega.{arith}
 use lib.Dec.{ltb}
 use lib.ListN.{length, get_or, set, drop, length-take, get_or-eq_default}
 use lib.Seq.{get_or-set_same, get_or-take, get_or-drop}
 use borrow.Author.Tests.{ltb-true, ltb-false}
+use Rattle.std.specs.Prelude.{Option, Some, None, Result, Ok, Err, ⊤}
 use Rattle.slices.specs.Lists.{mapped, Bytes}
 use Rattle.slices.specs.Sizes.{bank_size}
 use Rattle.slices.proofs.Bools.{by_test}
@@ -21,42 +19,33 @@ use Rattle.model.specs.declared.Report.{Report}
 use Rattle.run_numbers.specs.Runs.{state_of}
 use Rattle.seats.specs.Room.{Room, max_seats, bank_at, bank_of, seat_of, with_seat, alone_of}
 use Rattle.seats.specs.Turn.{TurnCall, turn_call, TurnOutcome, turn_outcome, turn_fault, goes_in, seat_after, first_from, next_seat, ran_of, made_of, turn_by, turn_of}
-use Rattle.seats.specs.declared.TurnAnswer.TheVariants.{Refused, NoneCan}
+use Rattle.seats.specs.declared.TurnRefusal.{TurnRefusal}
 use Rattle.seats.proofs.FairTurns.{turn_made}
-use Rattle.seats.proofs.TurnCases.{Bounded, bounded, passed, fitting, FoundFits, found_fits}
-use Rattle.seats.specs.internal.Places.{Fitting}
+use Rattle.seats.proofs.TurnCases.{Bounded, bounded, passed, fitting, places, FoundFits, found_fits}
+use Rattle.seats.specs.internal.Places.{Fitting, SeatPlaces}
 use Rattle.scheduling.specs.Numbers.{room_of}
-use Rattle.scheduling.specs.internal.Search.{goes_by, seat_or}
+use Rattle.scheduling.specs.internal.Search.{goes_by}
 use Rattle.scheduling.specs.declared.SeatLengths.{SeatLengths}
 use Rattle.scheduling.specs.declared.SeatNumbers.{SeatNumbers}
 use Rattle.scheduling.proofs.Finding.{goes_is, alike}
 use Rattle.scheduling.proofs.Numbers.{state_put}
 use Rattle.seating.specs.Reports.{numbers_after, TurnedAs}
 use Rattle.seating.specs.declared.TurnReport.{TurnReport}
-use Rattle.seating.specs.internal.SeatRuns.{SeatRan, report_by}
+use Rattle.seating.specs.internal.SeatRuns.{sought_by, seat_sought, SeatRan, report_by}
 
 -- ---- a call that keeps the rules
 
 pub record Accepted (n slice : ℕ) (w : Room) : Type 0 where
-  pub no_fault : turn_fault n slice w ≡ 0
+  pub no_fault : turn_fault n slice w ≡ Ok tt
   pub bounds : Bounded n slice
   pub fits : Fitting n w
 
-pub accepted : (n slice : ℕ) (w : Room) (k : ℕ) → k ≡ turn_fault n slice w → k ≡ 0 → Accepted n slice w
-accepted n slice w k e z =
-    let f : turn_fault n slice w ≡ 0 = sym e ∙ z in
+pub accepted : (n slice : ℕ) (w : Room) → turn_fault n slice w ≡ Ok tt → Accepted n slice w
+accepted n slice w f =
     let p = passed n slice w f in
     record { no_fault = f; bounds = bounded n slice p.0 p.1.0; fits = fitting n w p.1.1.0 }
 
 -- ---- the seat found
-
-none_or : (n : ℕ) (goes : ℕ → Bool) (x : Option ℕ) → FoundFits goes n x → n ≡ seat_or n x → x ≡ none
-none_or n goes none f e = refl
-none_or n goes (some i) f e = absurd (omega (arith, f.below))
-
-some_or : (n i : ℕ) (x : Option ℕ) → i ≢ n → i ≡ seat_or n x → x ≡ some i
-some_or n i none h e = absurd (h e)
-some_or n i (some j) h e = rw e
 
 bank_bytes : (l : List ℕ) → Bytes l → (i a : ℕ) → get_or (bank_of l i) a 0 < 256
 bank_bytes l b i a =
@@ -76,21 +65,50 @@ sought n slice from w a b =
     (goes_is n w a.fits (λ j. bank_bytes w.opcodes b j (get_or w.states j start_state).pc))
     n (from % n) (mod-lt from a.bounds.some_seats)
 
-pub below : (n slice from i : ℕ) (w : Room) → Accepted n slice w → i ≢ n → i ≡ seat_or n (next_seat (turn_call n slice from) w) → i < n
-below n slice from i w a h e =
-    let x : next_seat (turn_call n slice from) w ≡ some i = some_or n i (next_seat (turn_call n slice from) w) h e in
-    let f : FoundFits (goes_in w) n (some i) = rw x at (found_fits (goes_in w) n n (from % n) (mod-lt from a.bounds.some_seats)) in
+pub below : (n slice from i : ℕ) (w : Room) → Accepted n slice w → next_seat (turn_call n slice from) w ≡ Some i → i < n
+below n slice from i w a x =
+    let f : FoundFits (goes_in w) n (Some i) = rw x at (found_fits (goes_in w) n n (from % n) (mod-lt from a.bounds.some_seats)) in
     f.below
+
+pub accepts_seat : (from : ℕ) {n slice : ℕ} {w : Room} → Accepted n slice w → (x : Option ℕ) → x ≡ next_seat (turn_call n slice from) w
+    → Ok x ≡ seat_sought (turn_call n slice from) w
+accepts_seat from a x e = rw (a.no_fault, e)
+
+-- what the code sought tells of the call and of the seat
+sought_refused : (f : Result ⊤ TurnRefusal) (x : Option ℕ) (r : TurnRefusal) → sought_by f x ≡ Err r → f ≡ Err r
+sought_refused (Err q) x r e = cc
+sought_refused (Ok u) x r e = cc
+
+sought_kept : (f : Result ⊤ TurnRefusal) (x y : Option ℕ) → sought_by f x ≡ Ok y → (f ≡ Ok tt) × (x ≡ y)
+sought_kept (Err q) x y e = absurd (let z : ◌≡◌ {A = ℕ} 0 1 = cc in omega arith)
+sought_kept (Ok u) x y e = (refl, cc)
+
+-- a call that is kept, and what was found of it
+pub record Seeks (n slice from : ℕ) (w : Room) (x : Option ℕ) : Type 0 where
+  pub accepts : Accepted n slice w
+  pub found : next_seat (turn_call n slice from) w ≡ x
+
+-- the seat that was found is one of n, and has its places
+module _ {n slice from i : ℕ} {w : Room} (s : Seeks n slice from w (Some i)) where
+  pub is_seat : i < n
+  is_seat = below n slice from i w s.accepts s.found
+
+  pub has_place : i < max_seats
+  has_place = omega (arith, is_seat, s.accepts.bounds.most_seats)
+
+  pub has_places : SeatPlaces w i
+  has_places = places n w s.accepts.fits i is_seat
+
+pub seeks : (n slice from : ℕ) (w : Room) (x : Option ℕ) → Ok x ≡ seat_sought (turn_call n slice from) w → Seeks n slice from w x
+seeks n slice from w x e =
+    let t = sought_kept (turn_fault n slice w) (next_seat (turn_call n slice from) w) x (sym e) in
+    record { accepts = accepted n slice w t.0; found = t.1 }
 
 -- ---- the three outcomes
 
-refused_is : (k : ℕ) (c : TurnCall) (w : Room) → k ≢ 0 → turn_by k c w ≡ turn_outcome (Refused k) w
-refused_is zero c w h = absurd (h refl)
-refused_is (suc k) c w h = refl
-
-module _ (n slice from : ℕ) (ops args keys ram stack rolls : List ℕ) (k : SeatLengths) (x : SeatNumbers) where
+module _ (n slice from : ℕ) (ops args keys ram stack rolls : List ℕ) (m : SeatLengths) (x : SeatNumbers) where
   abbrev here : Room
-  here = room_of ops args keys ram stack rolls k x
+  here = room_of ops args keys ram stack rolls m x
 
   abbrev call : TurnCall
   call = turn_call n slice from
@@ -110,35 +128,33 @@ module _ (n slice from : ℕ) (ops args keys ram stack rolls : List ℕ) (k : Se
         rolls_left = rolls_left ∙ ap (λ (z : TurnOutcome). z.room.rolls) (sym e);
       }
 
-  pub refused_as : (number : ℕ) (r : TurnReport) → r ≡ record { answer = Refused number; seats = x }
-      → number ≡ turn_fault n slice here → number ≢ 0 → TurnedAs call here x r ram stack rolls
+  pub refused_as : (q : TurnRefusal) (r : TurnReport) → r ≡ record { answer = Err q; seats = x }
+      → seat_sought call here ≡ Err q → TurnedAs call here x r ram stack rolls
   unfolding turn_of
-  refused_as number r e f h =
-      let o : turn_of call here ≡ turn_outcome (Refused number) here = ap (λ (m : ℕ). turn_by m call here) (sym f) ∙ refused_is number call here h in
-      turned_as (turn_outcome (Refused number) here) r ram stack rolls o (rw e) (rw e) (rw e) (rw e) refl refl refl
+  refused_as q r e f =
+      let o : turn_of call here ≡ turn_outcome (Err q) here =
+      ap (λ (m : Result ⊤ TurnRefusal). turn_by m call here) (sought_refused (turn_fault n slice here) (next_seat call here) q f) in
+      turned_as (turn_outcome (Err q) here) r ram stack rolls o (rw e) (rw e) (rw e) (rw e) refl refl refl
 
-  pub none_as : (r : TurnReport) → r ≡ record { answer = NoneCan; seats = x } → Accepted n slice here
-      → n ≡ seat_or n (next_seat call here) → TurnedAs call here x r ram stack rolls
-  none_as r e a f =
-      let fits = found_fits (goes_in here) n n (from % n) (mod-lt from a.bounds.some_seats) in
-      let z : next_seat call here ≡ none = none_or n (goes_in here) (next_seat call here) fits f in
-      let o : turn_of call here ≡ turn_outcome NoneCan here = turn_made call here a.no_fault ∙ ap (made_of call here) z in
-      turned_as (turn_outcome NoneCan here) r ram stack rolls o (rw e) (rw e) (rw e) (rw e) refl refl refl
+  pub none_as : (r : TurnReport) → r ≡ record { answer = Ok None; seats = x } → Seeks n slice from here None → TurnedAs call here x r ram stack rolls
+  none_as r e s =
+      let o : turn_of call here ≡ turn_outcome (Ok None) here = turn_made call here s.accepts.no_fault ∙ ap (made_of call here) s.found in
+      turned_as (turn_outcome (Ok None) here) r ram stack rolls o (rw e) (rw e) (rw e) (rw e) refl refl refl
 
-  pub ran_as : (i next : ℕ) (o : Report) (r : TurnReport) (ram' stack' rolls' : List ℕ) → Accepted n slice here
-      → i ≢ n → i ≡ seat_or n (next_seat call here) → next ≡ seat_after n i
+  pub ran_as : (i next : ℕ) (o : Report) (r : TurnReport) (ram' stack' rolls' : List ℕ) → Seeks n slice from here (Some i)
+      → next ≡ seat_after n i
       → (length x.0 ≡ max_seats) × SeatRan here i slice o ram' stack' rolls' → r ≡ report_by i next o.answer o.state x
       → TurnedAs call here x r ram' stack' rolls'
   unfolding ran_of with_seat
-  ran_as i next o r ram' stack' rolls' a h f q ran e =
+  ran_as i next o r ram' stack' rolls' k q ran e =
+      let a = k.accepts in
       let s = ran.1 in
       let d = (alone_of (seat_of here i) slice).machine.core in
-      let z : next_seat call here ≡ some i = some_or n i (next_seat call here) h f in
-      let b : i < n = below n slice from i here a h f in
-      let m : length (mapped state_of x.0) ≡ max_seats = length_mapped state_of x.0 ∙ ran.0 in
+      let b : i < n = below n slice from i here a k.found in
+      let l : length (mapped state_of x.0) ≡ max_seats = length_mapped state_of x.0 ∙ ran.0 in
       let p : get_or (set (mapped state_of x.0) i d.state) i start_state ≡ d.state =
       get_or-set_same (mapped state_of x.0) i d.state start_state (omega (arith, a.bounds.most_seats)) in
-      let made : turn_of call here ≡ ran_of call here i = turn_made call here a.no_fault ∙ ap (made_of call here) z in
+      let made : turn_of call here ≡ ran_of call here i = turn_made call here a.no_fault ∙ ap (made_of call here) k.found in
       turned_as (ran_of call here i) r ram' stack' rolls' made
       (rw (e, s.answer, q))
       (rw (e, s.answer, s.state, p))

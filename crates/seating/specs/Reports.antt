@@ -1,22 +1,20 @@
 -- A turn's outcome by its report and the numbers of the seats.
 -- Assumes nothing.
-use Rattle.std.specs.Prelude.{ℕ, ◌≡◌, List, get_or, set}
+use Rattle.std.specs.Prelude.{ℕ, ◌≡◌, List, Some, None, Ok, Err, get_or, set}
 use Rattle.slices.specs.Lists.{mapped}
 use Rattle.model.specs.State.{start_state}
 use Rattle.run_numbers.specs.Runs.{state_of, state_numbers}
 use Rattle.seats.specs.Room.{Room}
-use Rattle.seats.specs.Turn.{TurnCall, turn_of}
-use Rattle.seats.specs.declared.TurnAnswer.{TurnAnswer}
-use Rattle.seats.specs.declared.TurnAnswer.TheVariants.{Refused, NoneCan, Ran}
+use Rattle.seats.specs.Turn.{TurnCall, TurnAnswer, turn_of}
 use Rattle.scheduling.specs.declared.SeatNumbers.{SeatNumbers}
 use Rattle.seating.specs.declared.TurnReport.{TurnReport}
 
 -- the numbers of the seats after a turn that answered so and left the room w, lent as x: those of the seat that ran are new, all others as they
 -- were lent
 abbrev pub numbers_after : TurnAnswer → SeatNumbers → Room → SeatNumbers
-numbers_after (Refused k) x w = x
-numbers_after NoneCan x w = x
-numbers_after (Ran i next y steps cycles) x w = (set x.0 i (state_numbers (get_or w.states i start_state)), w.roll_positions)
+numbers_after (Err r) x w = x
+numbers_after (Ok None) x w = x
+numbers_after (Ok (Some t)) x w = (set x.0 t.seat (state_numbers (get_or w.states t.seat start_state)), w.roll_positions)
 
 -- a turn's report r and what is left in the buffers, of the room w whose seats are lent as x. Opcodes, arguments, keys and all lengths are only read
 pub record TurnedAs (c : TurnCall) (w : Room) (x : SeatNumbers) (r : TurnReport) (ram stack rolls : List ℕ) : Type 0 where

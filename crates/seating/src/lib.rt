@@ -8,23 +8,45 @@ ghost use Rattle.seats.specs.Turn.{turn_call, max_slice};
 ghost use Rattle.seats.specs.internal.Places.{SeatPlaces};
 ghost use Rattle.scheduling.specs.Numbers.{room_of};
 ghost use Rattle.seating.specs.Reports.{TurnedAs};
-ghost use Rattle.seating.specs.internal.SeatRuns.{SeatRan, report_by};
+ghost use Rattle.seating.specs.internal.SeatRuns.{seat_sought, SeatRan, report_by};
 
 use machine::run_steps;
 use model::Report;
 use scheduling::lengths::begin_of;
 use scheduling::places::{seat_after, state_at, with_seat};
-use scheduling::refusals::refusal;
+use scheduling::refusals::check_call;
 use scheduling::search::next_seat;
 use scheduling::{SeatLengths, SeatNumbers};
-use seats::TurnAnswer;
+use seats::{SeatTurn, TurnRefusal};
 use slices::BANK_SIZE;
 
 // What a turn hands back: its answer, and the seats as they are after it.
 #[derive(Clone, Copy)]
 pub struct TurnReport {
-    pub answer: TurnAnswer,
+    pub answer: Result<Option<SeatTurn>, TurnRefusal>,
     pub seats: SeatNumbers,
+}
+
+// The seat that runs, if one can, where the call keeps the rules.
+fn seat_to_run(
+    n: usize,
+    slice: u32,
+    from: usize,
+    opcodes: &[u8],
+    arguments: &[u8],
+    keys: &[u8],
+    ram: &[u8],
+    stack: &[u8],
+    rolls: &[u16],
+    lengths: SeatLengths,
+    seats: SeatNumbers,
+) -> Result<Option<usize>, TurnRefusal>
+    ensures { result ≡ seat_sought (turn_call n slice from) (room_of opcodes.now arguments.now keys.now ram.now stack.now rolls.now lengths seats) }
+{
+    check_call(
+        n, slice, opcodes, arguments, keys, ram, stack, rolls, lengths, seats,
+    )?;
+    Ok(next_seat(opcodes, lengths, n, from % n, seats))
 }
 
 // Seat i's slice: its own parts of the buffers are lent to a run, the roll continued where it ends.
@@ -66,13 +88,10 @@ fn run_seat(
 }
 
 // The report of a turn in which no seat ran: the seats are as they were.
-fn idle(answer: TurnAnswer, seats: SeatNumbers) -> TurnReport
+fn idle(answer: Result<Option<SeatTurn>, TurnRefusal>, seats: SeatNumbers) -> TurnReport
     ensures { result ≡ record { answer = answer; seats = seats } }
 {
-    TurnReport {
-        answer: answer,
-        seats: seats,
-    }
+    TurnReport { answer, seats }
 }
 
 // The report of a turn in which seat i ran. `run_steps` refuses nothing, so the first arm is never
@@ -84,9 +103,15 @@ fn seat_report(i: usize, next: usize, report: Report, seats: SeatNumbers) -> Tur
     let answer = report.answer;
     let reached = report.state;
     match answer {
-        Err(_) => idle(TurnAnswer::NoneCan, seats),
+        Err(_) => idle(Ok(None), seats),
         Ok(r) => TurnReport {
-            answer: TurnAnswer::Ran(i, next, r.stop, r.steps, r.cycles),
+            answer: Ok(Some(SeatTurn {
+                seat: i,
+                next,
+                stop: r.stop,
+                steps: r.steps,
+                cycles: r.cycles,
+            })),
             seats: with_seat(seats, i, reached, r.words),
         },
     }
@@ -109,19 +134,17 @@ pub fn turn(
 ) -> TurnReport
     ensures { TurnedAs (turn_call n slice from) (room_of opcodes.now arguments.now keys.now ram.old stack.old rolls.old lengths seats) seats result ram.new stack.new rolls.new }
 {
-    let number = refusal(
-        n, slice, opcodes, arguments, keys, ram, stack, rolls, lengths, seats,
-    );
-    if number != 0 {
-        return idle(TurnAnswer::Refused(number), seats);
+    match seat_to_run(
+        n, slice, from, opcodes, arguments, keys, ram, stack, rolls, lengths, seats,
+    ) {
+        Err(refusal) => idle(Err(refusal), seats),
+        Ok(None) => idle(Ok(None), seats),
+        Ok(Some(i)) => {
+            let next = seat_after(n, i);
+            let report = run_seat(
+                opcodes, arguments, keys, ram, stack, rolls, lengths, slice, i, seats,
+            );
+            seat_report(i, next, report, seats)
+        }
     }
-    let i = next_seat(opcodes, lengths, n, from % n, seats);
-    if i == n {
-        return idle(TurnAnswer::NoneCan, seats);
-    }
-    let next = seat_after(n, i);
-    let report = run_seat(
-        opcodes, arguments, keys, ram, stack, rolls, lengths, slice, i, seats,
-    );
-    seat_report(i, next, report, seats)
 }

@@ -5,18 +5,19 @@ use mathlib.Core.Path.{◌≡◌, refl, sym, ap, ◌∙◌}
 use mathlib.Core.Bool.{Bool, true, false}
 use mathlib.Core.Logic.{◌≢◌}
 use mathlib.Core.List.{List, [], ◌∷◌}
-use mathlib.Core.Option.{some}
 use Prim.Native.Nat.{ℕ, zero, suc, ◌+◌, ◌-◌, ◌%◌, ◌≤◌, ◌<◌}
 use native.Mathlib.Nat.{zero-add, suc-add, add-zero, mod-lt, mod-eq_of_lt}
 use native.Mathlib.Omega.{arith}
 use lib.Dec.{eqb, ltb}
 use lib.ListN.{length}
 use borrow.Author.Tests.{eqb-false, eq-eqb, ne_eqb, ltb-true, ltb-false}
+use Rattle.std.specs.Prelude.{Some, Result, Ok, Err, ⊤}
 use Rattle.slices.proofs.Bools.{by_test, neither}
 use Rattle.seats.specs.Room.{Room, seat_of}
 use Rattle.seats.specs.RoomPromise.{Fair}
 use Rattle.seats.specs.Turn.{TurnCall, turn_call, turn_fault, can_go, goes_in, seat_after, first_from, next_seat, ran_of, made_of, turn_by, turn_of}
 use Rattle.seats.specs.TurnLists.{given_by, round_of, is_refused, any_refused, ever_ran}
+use Rattle.seats.specs.declared.TurnRefusal.{TurnRefusal}
 use Rattle.seats.proofs.AloneRuns.{ran_other}
 use Rattle.seats.proofs.TurnCases.{RanThere, bounded, passed, found_fits, after_below}
 
@@ -35,10 +36,10 @@ around_past : (n e d i : ℕ) → around n (e + suc d) i ≡ around n d (seat_af
 around_past n zero d i = rw (zero-add (suc d))
 around_past n (suc e) d i = rw (suc-add e (suc d)) (around_past n e d (seat_after n i))
 
-not_last : (n i : ℕ) → i + 1 < n → seat_after n i ≡ i + 1
+pub not_last : (n i : ℕ) → i + 1 < n → seat_after n i ≡ i + 1
 not_last n i h = let q : eqb (i + 1) n ≡ false = ne_eqb (i + 1) n (omega arith) in rw q
 
-last : (n i : ℕ) → i + 1 ≡ n → seat_after n i ≡ 0
+pub last : (n i : ℕ) → i + 1 ≡ n → seat_after n i ≡ 0
 last n i h = let q : eqb (i + 1) n ≡ true = eq-eqb (i + 1) n h in rw q
 
 upward : (n d i : ℕ) → i + d < n → around n d i ≡ i + d
@@ -75,7 +76,7 @@ reach n i j h k =
 pub record Found (goes : ℕ → Bool) (n i k d : ℕ) : Type 0 where
   pub far : ℕ
   pub within : far ≤ d
-  pub is : first_from goes n i k ≡ some (around n far i)
+  pub is : first_from goes n i k ≡ Some (around n far i)
 
 pub finds : (goes : ℕ → Bool) (n k d i : ℕ) → goes (around n d i) ≡ true → d < k → Found goes n i k d
 unfolding first_from
@@ -90,15 +91,15 @@ finds goes n (suc k) (suc d) i p h =
 
 -- ---- a turn that is not refused
 
-no_fault : (c : TurnCall) (w : Room) (n : ℕ) → is_refused (turn_by n c w).answer ≡ false → n ≡ 0
-no_fault c w zero e = refl
-no_fault c w (suc k) e = absurd (let z : ◌≡◌ {A = ℕ} 0 1 = cc in omega arith)
+no_fault : (c : TurnCall) (w : Room) (f : Result ⊤ TurnRefusal) → is_refused (turn_by f c w).answer ≡ false → f ≡ Ok tt
+no_fault c w (Ok u) e = refl
+no_fault c w (Err r) e = absurd (let z : ◌≡◌ {A = ℕ} 0 1 = cc in omega arith)
 
-not_refused : (c : TurnCall) (w : Room) → is_refused (turn_of c w).answer ≡ false → turn_fault c.seats c.slice w ≡ 0
+not_refused : (c : TurnCall) (w : Room) → is_refused (turn_of c w).answer ≡ false → turn_fault c.seats c.slice w ≡ Ok tt
 unfolding turn_of
 not_refused c w e = no_fault c w (turn_fault c.seats c.slice w) e
 
-pub turn_made : (c : TurnCall) (w : Room) → turn_fault c.seats c.slice w ≡ 0 → turn_of c w ≡ made_of c w (next_seat c w)
+pub turn_made : (c : TurnCall) (w : Room) → turn_fault c.seats c.slice w ≡ Ok tt → turn_of c w ≡ made_of c w (next_seat c w)
 unfolding turn_of
 turn_made c w e = rw e
 
@@ -113,7 +114,7 @@ round_runs n i (k ∷ ks) d from w a h l g r =
     let c : TurnCall = turn_call n k from in
     let o = turn_of c w in
     let t = neither (is_refused o.answer) (any_refused (round_of n ks (given_by o.answer from) o.room)) r in
-    let z : turn_fault c.seats c.slice w ≡ 0 = not_refused c w t.0 in
+    let z : turn_fault c.seats c.slice w ≡ Ok tt = not_refused c w t.0 in
     let p = passed c.seats c.slice w z in
     let f = finds (goes_in w) n n d (from % n) (rw a g) h in
     let s : from % n < n = mod-lt from (bounded c.seats c.slice p.0 p.1.0).some_seats in
@@ -135,7 +136,7 @@ round_runs n i (k ∷ ks) d from w a h l g r =
     (ap can_go (ran_other c w j there i q) ∙ g)
     (rw made at t.1)))
   where
-    fits_there : (goes : ℕ → Bool) (n i j : ℕ) → first_from goes n i n ≡ some j → i < n → goes j ≡ true
+    fits_there : (goes : ℕ → Bool) (n i j : ℕ) → first_from goes n i n ≡ Some j → i < n → goes j ≡ true
     fits_there goes n i j e h = (rw e at (found_fits goes n n i h)).passes
 
 pub fair : Fair

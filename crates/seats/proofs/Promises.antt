@@ -5,7 +5,8 @@ use mathlib.Core.Bool.{false}
 use Prim.Native.Nat.{ℕ, zero, suc, ◌<◌}
 use native.Mathlib.Omega.{arith}
 use lib.ListN.{length, length-set}
-use Rattle.slices.specs.Checks.{NoneBroken, FirstViolation}
+use Rattle.std.specs.Prelude.{Some, None, Ok}
+use Rattle.slices.specs.Checks.{NoneBroken, first_broken, FirstViolation}
 use Rattle.slices.proofs.Checks.{all_hold, first_violation}
 use Rattle.model.specs.Run.{reported, verdict_at, run_of}
 use Rattle.model.specs.Step.{machine_at, step_of}
@@ -17,28 +18,27 @@ use Rattle.model.proofs.Runs.{by_verdict, run_stops, run_goes, some_left}
 use Rattle.model.proofs.Traces.{run_steps}
 use Rattle.seats.specs.Room.{Room, Seat, seat_of, with_seat, machine_in, alone_of}
 use Rattle.seats.specs.RoomPromise.{Skips, call_at, AloneIsACall, RoomPromise}
-use Rattle.seats.specs.Turn.{TurnCall, TurnOutcome, turn_checks, turn_fault, can_go, goes_in, seat_after, ran_of, turn_of, turn_number, ran_seat, TurnPromise}
-use Rattle.seats.specs.declared.TurnAnswer.TheVariants.{NoneCan, Ran}
+use Rattle.seats.specs.Turn.{TurnCall, TurnOutcome, turn_checks, can_go, goes_in, seat_after, ran_of, turn_of, turn_number, ran_seat, TurnPromise}
+use Rattle.seats.specs.declared.SeatTurn.{SeatTurn}
 use Rattle.seats.proofs.AloneRuns.{alone_none, ran_other, alone}
 use Rattle.seats.proofs.FairTurns.{fair}
 use Rattle.seats.proofs.Rounds.{after_is, found_first, none_found}
 use Rattle.seats.proofs.SeatRuns.{same_steps, demand_at_seats}
-use Rattle.seats.proofs.TurnCases.{RanThere, numbered, bounded, turn_cases}
+use Rattle.seats.proofs.TurnCases.{RanThere, numbered, fault_first, bounded, turn_cases}
 
 -- ---- a turn
 
 module _ (c : TurnCall) (w : Room) where
   -- the answer's number is that of the first broken rule
-  fault_told : turn_number (turn_of c w).answer ≡ turn_fault c.seats c.slice w
-  unfolding ran_of turn_fault
+  fault_told : turn_number (turn_of c w).answer ≡ first_broken (turn_checks c.seats c.slice w)
+  unfolding ran_of
   fault_told =
-      turn_cases (λ (o : TurnOutcome). turn_number o.answer ≡ turn_fault c.seats c.slice w) c w
-      (λ k e. sym e)
+      turn_cases (λ (o : TurnOutcome). turn_number o.answer ≡ first_broken (turn_checks c.seats c.slice w)) c w
+      (λ k e. fault_first c.seats c.slice w k e)
       (λ n. sym (all_hold (turn_checks c.seats c.slice w) n.kept))
       (λ j r. sym (all_hold (turn_checks c.seats c.slice w) r.kept))
 
   refuses : FirstViolation (turn_checks c.seats c.slice w) (turn_number (turn_of c w).answer)
-  unfolding turn_fault
   refuses = rw fault_told (first_violation (turn_checks c.seats c.slice w) (numbered c.seats c.slice w))
 
   unchanged : (NoneBroken (turn_checks c.seats c.slice w) → ⊥) → (turn_of c w).room ≡ w
@@ -49,32 +49,32 @@ module _ (c : TurnCall) (w : Room) where
       (λ n b. refl)
       (λ j r b. absurd (b r.kept))
 
-  none_kept : (turn_of c w).answer ≡ NoneCan → (turn_of c w).room ≡ w
+  none_kept : (turn_of c w).answer ≡ Ok None → (turn_of c w).room ≡ w
   unfolding ran_of
   none_kept =
-      turn_cases (λ (o : TurnOutcome). o.answer ≡ NoneCan → o.room ≡ w) c w
+      turn_cases (λ (o : TurnOutcome). o.answer ≡ Ok None → o.room ≡ w) c w
       (λ k e q. refl)
       (λ n q. refl)
       (λ j r q. absurd (let z : ◌≡◌ {A = ℕ} 0 1 = cc in omega arith))
 
-  none_goes : (turn_of c w).answer ≡ NoneCan → (i : ℕ) → i < c.seats → goes_in w i ≡ false
+  none_goes : (turn_of c w).answer ≡ Ok None → (i : ℕ) → i < c.seats → goes_in w i ≡ false
   unfolding ran_of
   none_goes =
-      turn_cases (λ (o : TurnOutcome). o.answer ≡ NoneCan → (i : ℕ) → i < c.seats → goes_in w i ≡ false) c w
+      turn_cases (λ (o : TurnOutcome). o.answer ≡ Ok None → (i : ℕ) → i < c.seats → goes_in w i ≡ false) c w
       (λ k e q. absurd (let z : ◌≡◌ {A = ℕ} 0 1 = cc in omega arith))
       (λ n q. none_found (goes_in w) c.seats c.from n.found)
       (λ j r q. absurd (let z : ◌≡◌ {A = ℕ} 0 1 = cc in omega arith))
 
   -- a turn that answers so, of a seat i that was found
-  ran_is : (i next : ℕ) (y : Stop) (steps cycles : ℕ) → (turn_of c w).answer ≡ Ran i next y steps cycles → RanThere c w i × (next ≡ seat_after c.seats i)
+  ran_is : (t : SeatTurn) → (turn_of c w).answer ≡ Ok (Some t) → RanThere c w t.seat × (t.next ≡ seat_after c.seats t.seat)
   unfolding ran_of
-  ran_is i next y steps cycles =
-      turn_cases (λ (o : TurnOutcome). o.answer ≡ Ran i next y steps cycles → RanThere c w i × (next ≡ seat_after c.seats i)) c w
+  ran_is t =
+      turn_cases (λ (o : TurnOutcome). o.answer ≡ Ok (Some t) → RanThere c w t.seat × (t.next ≡ seat_after c.seats t.seat)) c w
       (λ k e q. absurd (let z : ◌≡◌ {A = ℕ} 0 1 = cc in omega arith))
       (λ n q. absurd (let z : ◌≡◌ {A = ℕ} 0 1 = cc in omega arith))
       (λ j r q.
-      let z : j ≡ i = cc in
-      let a : seat_after c.seats j ≡ next = cc in
+      let z : j ≡ t.seat = cc in
+      let a : seat_after c.seats j ≡ t.next = cc in
       (subst (RanThere c w) z r, sym a ∙ ap (seat_after c.seats) z))
 
   pub turn_promise : TurnPromise c w (turn_of c w)
@@ -85,12 +85,12 @@ module _ (c : TurnCall) (w : Room) where
         unchanged = unchanged;
         none_kept = none_kept;
         none_goes = none_goes;
-        first = λ i next y steps cycles q.
-            let r = (ran_is i next y steps cycles q).0 in
-            found_first (goes_in w) c.seats c.from i (bounded c.seats c.slice r.kept.0 r.kept.1.0).some_seats r.found;
-        after = λ i next y steps cycles q.
-            let r = ran_is i next y steps cycles q in
-            r.1 ∙ after_is c.seats i r.0.below;
+        first = λ t q.
+            let r = (ran_is t q).0 in
+            found_first (goes_in w) c.seats c.from t.seat (bounded c.seats c.slice r.kept.0 r.kept.1.0).some_seats r.found;
+        after = λ t q.
+            let r = ran_is t q in
+            r.1 ∙ after_is c.seats t.seat r.0.below;
         others_kept =
             turn_cases (λ (o : TurnOutcome). (i : ℕ) → ran_seat i o.answer ≡ false → seat_of o.room i ≡ seat_of w i) c w
             (λ k e i q. refl)

@@ -1,20 +1,21 @@
 -- What a turn that is not refused has shown of the seats, and what a turn can be: a refusal, none, or a seat's slice.
 -- Assumes nothing.
 use mathlib.Core.Path.{◌≡◌, refl}
+use mathlib.Core.List.{List, [], ◌∷◌}
 use mathlib.Core.Bool.{Bool, true, false, not, ◌||◌}
-use mathlib.Core.Option.{Option, none, some}
 use Prim.Native.Nat.{ℕ, zero, suc, ◌+◌, ◌%◌, ◌≤◌, ◌<◌}
 use native.Mathlib.Nat.{mod-lt}
 use native.Mathlib.Omega.{arith}
 use lib.Dec.{eqb, ltb}
 use lib.ListN.{length}
 use borrow.Author.Tests.{eqb-true, eqb-false, ltb-false, not-false}
-use Rattle.slices.specs.Checks.{NoneBroken}
+use Rattle.std.specs.Prelude.{Option, Some, None, Result, Ok, Err, ⊤}
+use Rattle.slices.specs.Checks.{NoneBroken, first_broken}
 use Rattle.slices.proofs.Bools.{by_test, neither}
-use Rattle.slices.proofs.Checks.{Numbered, none_broken}
+use Rattle.slices.proofs.Checks.{Numbered}
 use Rattle.seats.specs.Room.{Room, max_seats, bank_at, begin_of, length_at, seat_of}
-use Rattle.seats.specs.Turn.{TurnCall, TurnOutcome, turn_outcome, bad_seats, bad_slice, bad_banks, bad_lengths, bad_buffers, any_of, turn_checks, turn_fault, can_go, goes_in, seat_after, first_from, next_seat, ran_of, made_of, turn_by, turn_of, max_slice}
-use Rattle.seats.specs.declared.TurnAnswer.TheVariants.{Refused, NoneCan}
+use Rattle.seats.specs.Turn.{TurnCall, TurnOutcome, turn_outcome, bad_seats, bad_slice, bad_banks, bad_lengths, bad_buffers, any_of, refusal_number, Cause, turn_causes, first_cause, turn_fault, checks_of, turn_checks, can_go, goes_in, seat_after, first_from, next_seat, ran_of, made_of, turn_by, turn_of, max_slice}
+use Rattle.seats.specs.declared.TurnRefusal.{TurnRefusal}
 use Rattle.seats.specs.internal.Places.{Fitting, SeatPlaces}
 use Rattle.seats.proofs.Begins.{ends_before}
 
@@ -23,9 +24,29 @@ use Rattle.seats.proofs.Begins.{ends_before}
 pub numbered : (n slice : ℕ) (w : Room) → Numbered (turn_checks n slice w)
 numbered n slice w = (omega arith, (omega arith, (omega arith, (omega arith, tt))))
 
-pub passed : (n slice : ℕ) (w : Room) → turn_fault n slice w ≡ 0 → NoneBroken (turn_checks n slice w)
+none_given : (xs : List Cause) → first_cause xs ≡ Ok tt → NoneBroken (checks_of xs)
+none_given [] e = tt
+none_given (x ∷ xs) e =
+    by_test x.given
+    (λ q. let f : Err x.refusal ≡ Ok tt = rw q at e in absurd (let z : ◌≡◌ {A = ℕ} 0 1 = cc in omega arith))
+    (λ q. (q, none_given xs (rw q at e)))
+
+pub passed : (n slice : ℕ) (w : Room) → turn_fault n slice w ≡ Ok tt → NoneBroken (turn_checks n slice w)
 unfolding turn_fault
-passed n slice w e = none_broken (turn_checks n slice w) (numbered n slice w) e
+passed n slice w e = none_given (turn_causes n slice w) e
+
+-- a refusal's number is that of the first broken rule
+refused_first : (xs : List Cause) (r : TurnRefusal) → first_cause xs ≡ Err r → refusal_number r ≡ first_broken (checks_of xs)
+unfolding first_broken
+refused_first [] r e = absurd (let z : ◌≡◌ {A = ℕ} 0 1 = cc in omega arith)
+refused_first (x ∷ xs) r e =
+    by_test x.given
+    (λ q. let f : ◌≡◌ {A = Result ⊤ TurnRefusal} (Err x.refusal) (Err r) = rw q at e in let z : x.refusal ≡ r = cc in rw (q, first_broken, z) (omega arith))
+    (λ q. rw (q, first_broken) (refused_first xs r (rw q at e)))
+
+pub fault_first : (n slice : ℕ) (w : Room) (r : TurnRefusal) → turn_fault n slice w ≡ Err r → refusal_number r ≡ first_broken (turn_checks n slice w)
+unfolding turn_fault
+fault_first n slice w r e = refused_first (turn_causes n slice w) r e
 
 -- what the first two tell of the call
 pub record Bounded (n slice : ℕ) : Type 0 where
@@ -109,8 +130,8 @@ pub record Fit (goes : ℕ → Bool) (n j : ℕ) : Type 0 where
   pub passes : goes j ≡ true
 
 abbrev pub FoundFits : (ℕ → Bool) → ℕ → Option ℕ → Type 0
-FoundFits goes n none = Unit {0}
-FoundFits goes n (some j) = Fit goes n j
+FoundFits goes n None = Unit {0}
+FoundFits goes n (Some j) = Fit goes n j
 
 pub after_below : (n i : ℕ) → i < n → seat_after n i < n
 after_below n i h =
@@ -133,26 +154,26 @@ pub record RanThere (c : TurnCall) (w : Room) (j : ℕ) : Type 0 where
   pub kept : NoneBroken (turn_checks c.seats c.slice w)
   pub below : j < c.seats
   pub goes : can_go (seat_of w j) ≡ true
-  pub found : next_seat c w ≡ some j
+  pub found : next_seat c w ≡ Some j
 
 -- no seat that could run
 pub record NoneThere (c : TurnCall) (w : Room) : Type 0 where
   pub kept : NoneBroken (turn_checks c.seats c.slice w)
-  pub found : next_seat c w ≡ none
+  pub found : next_seat c w ≡ None
 
 pub turn_cases : (P : TurnOutcome → Type 0) (c : TurnCall) (w : Room)
-    → ((k : ℕ) → turn_fault c.seats c.slice w ≡ suc k → P (turn_outcome (Refused (suc k)) w)) → (NoneThere c w → P (turn_outcome NoneCan w))
+    → ((r : TurnRefusal) → turn_fault c.seats c.slice w ≡ Err r → P (turn_outcome (Err r) w)) → (NoneThere c w → P (turn_outcome (Ok None) w))
     → ((j : ℕ) → RanThere c w j → P (ran_of c w j)) → P (turn_of c w)
 unfolding turn_of
 turn_cases P c w refused idle ran = by_fault (turn_fault c.seats c.slice w) refl
   where
     made : NoneBroken (turn_checks c.seats c.slice w) → (x : Option ℕ) → next_seat c w ≡ x → FoundFits (goes_in w) c.seats x → P (made_of c w x)
-    made k none e f = idle (record { kept = k; found = e })
-    made k (some j) e f = ran j (record { kept = k; below = f.below; goes = f.passes; found = e })
+    made k None e f = idle (record { kept = k; found = e })
+    made k (Some j) e f = ran j (record { kept = k; below = f.below; goes = f.passes; found = e })
 
-    by_fault : (n : ℕ) → turn_fault c.seats c.slice w ≡ n → P (turn_by n c w)
-    by_fault zero e =
+    by_fault : (f : Result ⊤ TurnRefusal) → turn_fault c.seats c.slice w ≡ f → P (turn_by f c w)
+    by_fault (Ok u) e =
         let k = passed c.seats c.slice w e in
         let b = bounded c.seats c.slice k.0 k.1.0 in
         made k (next_seat c w) refl (found_fits (goes_in w) c.seats c.seats (c.from % c.seats) (mod-lt c.from b.some_seats))
-    by_fault (suc k) e = refused k e
+    by_fault (Err r) e = refused r e

@@ -1,7 +1,7 @@
 -- 02 [5]: "so what a teacher was told of an admitted listing remains true at its seat". A seat's turns are a list of runs as 01, 'Lists of runs',
 -- has them, and the third demand holds of that list.
 -- Assumes nothing.
-use Rattle.std.specs.Prelude.{ℕ, ◌-◌, ◌≤◌, ◌≡◌, cond, List, [], ◌∷◌, ◌++◌, eqb, length, drop}
+use Rattle.std.specs.Prelude.{ℕ, ◌-◌, ◌≤◌, ◌≡◌, cond, List, [], ◌∷◌, ◌++◌, eqb, length, drop, Some, None, Ok, Err}
 use Rattle.slices.specs.Lists.{mapped}
 use Rattle.model.specs.Run.{Outcome, outcome, ran, trace_of}
 use Rattle.model.specs.Step.{Machine, machine_at}
@@ -10,9 +10,7 @@ use Rattle.rules.specs.Grounds.{admit_of}
 use Rattle.rules.specs.RunLists.{Snapshot, resume, own, ListedRun, run_machine, outcomes}
 use Rattle.rules.specs.Sheet.{Listing}
 use Rattle.seats.specs.Room.{Room, EightPlaces, Seat, seat_of, machine_in}
-use Rattle.seats.specs.Turn.{TurnCall, turn_of, ran_seat}
-use Rattle.seats.specs.declared.TurnAnswer.{TurnAnswer}
-use Rattle.seats.specs.declared.TurnAnswer.TheVariants.{Refused, NoneCan, Ran}
+use Rattle.seats.specs.Turn.{TurnCall, TurnAnswer, turn_of, ran_seat}
 
 -- what lies between the runs of a seat
 abbrev pub snapshot_of : Seat → Snapshot
@@ -43,11 +41,11 @@ runs_at i (c ∷ cs) w =
 -- what a turn told and left of seat i, as a run's outcome, if it ran: s is the seat before the turn and t the seat after it. The words are those
 -- that the turn added to the roll
 abbrev pub told_by : ℕ → TurnAnswer → (s t : Seat) → List Outcome
-told_by i (Refused k) s t = []
-told_by i NoneCan s t = []
-told_by i (Ran j next y steps cycles) s t =
-    cond (eqb j i)
-    (outcome (ran y steps cycles (t.roll_position - s.roll_position)) t.state t.ram t.stack (drop s.roll_position t.roll) ∷ []) []
+told_by i (Err r) s t = []
+told_by i (Ok None) s t = []
+told_by i (Ok (Some x)) s t =
+    cond (eqb x.seat i)
+    (outcome (ran x.stop x.steps x.cycles (t.roll_position - s.roll_position)) t.state t.ram t.stack (drop s.roll_position t.roll) ∷ []) []
 
 unfoldable pub told_at : ℕ → List TurnCall → Room → List Outcome
 told_at i [] w = []

@@ -1,8 +1,7 @@
 -- 02 [5]: a turn, as one call makes it: its refusals 28, 29, 17 and 18, the seat that runs, and all that it answers and leaves.
 -- Assumes nothing.
-use Rattle.std.specs.Prelude.{ℕ, zero, suc, ◌+◌, ◌%◌, ◌<◌, ◌≡◌, Bool, true, false, not, cond, ◌||◌, List, [], ◌∷◌, eqb, ltb, length, get_or}
-use Rattle.std.proofs.Math.Option.{Option, none, some}
-use Rattle.slices.specs.Checks.{Check, check, first_broken, NoneBroken, FirstViolation}
+use Rattle.std.specs.Prelude.{ℕ, zero, suc, ◌+◌, ◌%◌, ◌<◌, ◌≡◌, Bool, true, false, not, cond, ◌||◌, List, [], ◌∷◌, eqb, ltb, length, get_or, Option, Some, None, Result, Ok, Err, ⊤}
+use Rattle.slices.specs.Checks.{Check, check, NoneBroken, FirstViolation}
 use Rattle.model.specs.Run.{verdict_at}
 use Rattle.model.specs.State.{start_state}
 use Rattle.model.specs.declared.State.{State}
@@ -10,8 +9,9 @@ use Rattle.model.specs.declared.Stop.{Stop}
 use Rattle.model.specs.declared.Verdict.{Verdict}
 use Rattle.model.specs.declared.Verdict.TheVariants.{Go, Stopped}
 use Rattle.seats.specs.Room.{Room, max_seats, bank_at, begin_of, length_at, Seat, seat_of, with_seat, machine_in, alone_of, seat_at}
-use Rattle.seats.specs.declared.TurnAnswer.{TurnAnswer}
-use Rattle.seats.specs.declared.TurnAnswer.TheVariants.{Refused, NoneCan, Ran}
+use Rattle.seats.specs.declared.SeatTurn.{SeatTurn}
+use Rattle.seats.specs.declared.TurnRefusal.{TurnRefusal}
+use Rattle.seats.specs.declared.TurnRefusal.TheVariants.{BadSeats, BadSlice, BadBuffers, BadPositions}
 
 -- what a turn is called with: how many seats there are, "a slice of 1 to 1,000 steps", and the seat that it begins from
 pub record TurnCall : Type 0 where
@@ -22,6 +22,13 @@ pub record TurnCall : Type 0 where
 abbrev pub turn_call : (seats slice from : ℕ) → TurnCall
 turn_call n slice from = record { seats = n; slice = slice; from = from }
 
+abbrev pub seat_turn : (seat next : ℕ) → Stop → (steps cycles : ℕ) → SeatTurn
+seat_turn i next y steps cycles = record { seat = i; next = next; stop = y; steps = steps; cycles = cycles }
+
+-- the seat that ran, or none where none can go on; or why the call is refused
+abbrev pub TurnAnswer : Type 0
+TurnAnswer = Result (Option SeatTurn) TurnRefusal
+
 -- all that a turn answers and leaves
 pub record TurnOutcome : Type 0 where
   pub answer : TurnAnswer
@@ -31,6 +38,13 @@ abbrev pub turn_outcome : TurnAnswer → Room → TurnOutcome
 turn_outcome a w = record { answer = a; room = w }
 
 -- ---- refusals
+
+-- 02's numbers
+abbrev pub refusal_number : TurnRefusal → ℕ
+refusal_number BadSeats = 28
+refusal_number BadSlice = 29
+refusal_number BadBuffers = 17
+refusal_number BadPositions = 18
 
 -- 28 "when the seats are 0 or over 8"
 abbrev pub bad_seats : (seats : ℕ) → Bool
@@ -63,17 +77,37 @@ unfoldable pub any_of : (fails : ℕ → Bool) → (seats : ℕ) → Bool
 any_of fails zero = false
 any_of fails (suc n) = any_of fails n || fails n
 
+-- a refusal, and whether the call gives cause for it
+pub record Cause : Type 0 where
+  pub refusal : TurnRefusal
+  pub given : Bool
+
+abbrev pub cause : TurnRefusal → Bool → Cause
+cause r b = record { refusal = r; given = b }
+
 -- "28 ..; then 29 ..; then 17 ..; then 18"
-abbrev pub turn_checks : (seats slice : ℕ) → Room → List Check
-turn_checks n slice w =
-    check 28 0 (bad_seats n)
-    ∷ check 29 0 (bad_slice slice)
-    ∷ check 17 0 (bad_buffers n w.opcodes w.arguments w.keys w.ram w.stack w.rolls w.key_lengths w.roll_lengths)
-    ∷ check 18 0 (any_of (bad_position w.key_lengths w.roll_lengths w.states w.roll_positions) n)
+abbrev pub turn_causes : (seats slice : ℕ) → Room → List Cause
+turn_causes n slice w =
+    cause BadSeats (bad_seats n)
+    ∷ cause BadSlice (bad_slice slice)
+    ∷ cause BadBuffers (bad_buffers n w.opcodes w.arguments w.keys w.ram w.stack w.rolls w.key_lengths w.roll_lengths)
+    ∷ cause BadPositions (any_of (bad_position w.key_lengths w.roll_lengths w.states w.roll_positions) n)
     ∷ []
 
-unfoldable pub turn_fault : (seats slice : ℕ) → Room → ℕ
-turn_fault n slice w = first_broken (turn_checks n slice w)
+abbrev pub first_cause : List Cause → Result ⊤ TurnRefusal
+first_cause [] = Ok tt
+first_cause (x ∷ xs) = cond x.given (Err x.refusal) (first_cause xs)
+
+unfoldable pub turn_fault : (seats slice : ℕ) → Room → Result ⊤ TurnRefusal
+turn_fault n slice w = first_cause (turn_causes n slice w)
+
+-- the same causes as rules with their numbers
+abbrev pub checks_of : List Cause → List Check
+checks_of [] = []
+checks_of (x ∷ xs) = check (refusal_number x.refusal) 0 x.given ∷ checks_of xs
+
+abbrev pub turn_checks : (seats slice : ℕ) → Room → List Check
+turn_checks n slice w = checks_of (turn_causes n slice w)
 
 -- ---- the seat that runs
 
@@ -94,8 +128,8 @@ seat_after n i = cond (eqb (i + 1) n) 0 (i + 1)
 
 -- "Turns go round the seats in order, skipping seats": the first of k seats, from seat i on and round them, that goes
 unfoldable pub first_from : (goes : ℕ → Bool) → (seats : ℕ) → (i k : ℕ) → Option ℕ
-first_from goes n i zero = none
-first_from goes n i (suc k) = cond (goes i) (some i) (first_from goes n (seat_after n i) k)
+first_from goes n i zero = None
+first_from goes n i (suc k) = cond (goes i) (Some i) (first_from goes n (seat_after n i) k)
 
 -- "from a given seat on (modulo the seats)"
 abbrev pub next_seat : TurnCall → Room → Option ℕ
@@ -107,18 +141,18 @@ next_seat c w = first_from (goes_in w) c.seats (c.from % c.seats) c.seats
 unfoldable pub ran_of : TurnCall → Room → ℕ → TurnOutcome
 ran_of c w i =
     let e = alone_of (seat_of w i) c.slice in
-    turn_outcome (Ran i (seat_after c.seats i) e.stop e.machine.core.steps e.machine.core.cycles)
+    turn_outcome (Ok (Some (seat_turn i (seat_after c.seats i) e.stop e.machine.core.steps e.machine.core.cycles)))
     (with_seat w i (seat_at (seat_of w i) e.machine))
 
 -- "where none can go on it only says so"
 abbrev pub made_of : TurnCall → Room → Option ℕ → TurnOutcome
-made_of c w none = turn_outcome NoneCan w
-made_of c w (some i) = ran_of c w i
+made_of c w None = turn_outcome (Ok None) w
+made_of c w (Some i) = ran_of c w i
 
 -- a refusal leaves everything as it was
-abbrev pub turn_by : (fault : ℕ) → TurnCall → Room → TurnOutcome
-turn_by zero c w = made_of c w (next_seat c w)
-turn_by (suc k) c w = turn_outcome (Refused (suc k)) w
+abbrev pub turn_by : (fault : Result ⊤ TurnRefusal) → TurnCall → Room → TurnOutcome
+turn_by (Err r) c w = turn_outcome (Err r) w
+turn_by (Ok u) c w = made_of c w (next_seat c w)
 
 -- the whole outcome of a call
 unfoldable pub turn_of : TurnCall → Room → TurnOutcome
@@ -126,15 +160,14 @@ turn_of c w = turn_by (turn_fault c.seats c.slice w) c w
 
 -- 02's number for each case of the answer, 0 where nothing is refused
 abbrev pub turn_number : TurnAnswer → ℕ
-turn_number (Refused k) = k
-turn_number NoneCan = 0
-turn_number (Ran i next y steps cycles) = 0
+turn_number (Err r) = refusal_number r
+turn_number (Ok x) = 0
 
 -- whether seat i ran
 abbrev pub ran_seat : ℕ → TurnAnswer → Bool
-ran_seat i (Refused k) = false
-ran_seat i NoneCan = false
-ran_seat i (Ran j next y steps cycles) = eqb j i
+ran_seat i (Err r) = false
+ran_seat i (Ok None) = false
+ran_seat i (Ok (Some t)) = eqb t.seat i
 
 -- ---- what is promised of a call and its outcome o, which is turn_of's
 
@@ -152,10 +185,10 @@ pub record TurnPromise (c : TurnCall) (w : Room) (o : TurnOutcome) : Type 0 wher
   -- and everything lent is as it was then
   pub unchanged : (NoneBroken (turn_checks c.seats c.slice w) → ⊥) → o.room ≡ w
   -- it is as it was, too, where none can go on; and then none can
-  pub none_kept : o.answer ≡ NoneCan → o.room ≡ w
-  pub none_goes : o.answer ≡ NoneCan → (i : ℕ) → i < c.seats → goes_in w i ≡ false
+  pub none_kept : o.answer ≡ Ok None → o.room ≡ w
+  pub none_goes : o.answer ≡ Ok None → (i : ℕ) → i < c.seats → goes_in w i ≡ false
   -- the seat that ran, and "the seat after the one that ran, 0 after the last"
-  pub first : (i next : ℕ) (y : Stop) (steps cycles : ℕ) → o.answer ≡ Ran i next y steps cycles → FirstToGo (goes_in w) c.seats c.from i
-  pub after : (i next : ℕ) (y : Stop) (steps cycles : ℕ) → o.answer ≡ Ran i next y steps cycles → next ≡ (i + 1) % c.seats
+  pub first : (t : SeatTurn) → o.answer ≡ Ok (Some t) → FirstToGo (goes_in w) c.seats c.from t.seat
+  pub after : (t : SeatTurn) → o.answer ≡ Ok (Some t) → t.next ≡ (t.seat + 1) % c.seats
   -- every seat that did not run is as it was
   pub others_kept : (i : ℕ) → ran_seat i o.answer ≡ false → seat_of o.room i ≡ seat_of w i

@@ -1,10 +1,8 @@
 -- 02 [5]: turns one after another. "Let each turn get states, lengths and buffers as the one before left them."
 -- Assumes nothing.
-use Rattle.std.specs.Prelude.{ℕ, ◌+◌, Bool, true, false, cond, ◌||◌, List, [], ◌∷◌}
+use Rattle.std.specs.Prelude.{ℕ, ◌+◌, Bool, true, false, cond, ◌||◌, List, [], ◌∷◌, Some, None, Ok, Err}
 use Rattle.seats.specs.Room.{Room}
-use Rattle.seats.specs.Turn.{TurnCall, turn_call, TurnOutcome, turn_of, ran_seat}
-use Rattle.seats.specs.declared.TurnAnswer.{TurnAnswer}
-use Rattle.seats.specs.declared.TurnAnswer.TheVariants.{Refused, NoneCan, Ran}
+use Rattle.seats.specs.Turn.{TurnCall, turn_call, TurnAnswer, TurnOutcome, turn_of, ran_seat}
 
 -- ---- any list of turns, refused ones among them
 
@@ -28,17 +26,17 @@ slices_at i cs w = sum_at slice_in i cs w
 
 -- the steps and the cycles that its turns told
 abbrev pub steps_in : TurnCall → TurnAnswer → ℕ
-steps_in c (Refused k) = 0
-steps_in c NoneCan = 0
-steps_in c (Ran i next y steps cycles) = steps
+steps_in c (Err r) = 0
+steps_in c (Ok None) = 0
+steps_in c (Ok (Some t)) = t.steps
 
 abbrev pub steps_at : ℕ → List TurnCall → Room → ℕ
 steps_at i cs w = sum_at steps_in i cs w
 
 abbrev pub cycles_in : TurnCall → TurnAnswer → ℕ
-cycles_in c (Refused k) = 0
-cycles_in c NoneCan = 0
-cycles_in c (Ran i next y steps cycles) = cycles
+cycles_in c (Err r) = 0
+cycles_in c (Ok None) = 0
+cycles_in c (Ok (Some t)) = t.cycles
 
 abbrev pub cycles_at : ℕ → List TurnCall → Room → ℕ
 cycles_at i cs w = sum_at cycles_in i cs w
@@ -46,9 +44,9 @@ cycles_at i cs w = sum_at cycles_in i cs w
 -- ---- turns of n seats, one for each slice, "when each turn is given the seat that the one before gave"
 
 abbrev pub given_by : TurnAnswer → ℕ → ℕ
-given_by (Refused k) from = from
-given_by NoneCan from = from
-given_by (Ran i next y steps cycles) from = next
+given_by (Err r) from = from
+given_by (Ok None) from = from
+given_by (Ok (Some t)) from = t.next
 
 unfoldable pub round_of : (seats : ℕ) → (slices : List ℕ) → (from : ℕ) → Room → List TurnOutcome
 round_of n [] from w = []
@@ -57,9 +55,8 @@ round_of n (k ∷ ks) from w =
     o ∷ round_of n ks (given_by o.answer from) o.room
 
 abbrev pub is_refused : TurnAnswer → Bool
-is_refused (Refused k) = true
-is_refused NoneCan = false
-is_refused (Ran i next y steps cycles) = false
+is_refused (Err r) = true
+is_refused (Ok x) = false
 
 abbrev pub any_refused : List TurnOutcome → Bool
 any_refused [] = false

@@ -1,4 +1,4 @@
-// The answer of a turn, and the limits of a call. `specs/` says what a turn and a list of turns are,
+// What a turn answers, `Result<Option<SeatTurn>, TurnRefusal>`, and the limits of a call. `specs/` says what a turn and a list of turns are,
 // and what is promised of them; nothing here runs.
 #![tactic(auto)]
 
@@ -10,11 +10,22 @@ pub const MAX_SEATS: usize = 8;
 
 pub const MAX_SLICE: u32 = 1000;
 
-// A turn's answer: the number of a refusal; that no seat can go on; or the seat that ran, the seat
-// after it, and stop, steps and cycles of its slice.
+// Why a turn's call is refused, in the order in which its rules are judged.
+#[derive(Clone, Copy, Debug, PartialEq, Eq)]
+pub enum TurnRefusal {
+    BadSeats,
+    BadSlice,
+    BadBuffers,
+    BadPositions,
+}
+
+// The seat that ran in a turn, the seat after it, and stop, steps and cycles of its slice. A turn in
+// which no seat can go on has none.
 #[derive(Clone, Copy)]
-pub enum TurnAnswer {
-    Refused(u8),
-    NoneCan,
-    Ran(usize, usize, Stop, u32, u32),
+pub struct SeatTurn {
+    pub seat: usize,
+    pub next: usize,
+    pub stop: Stop,
+    pub steps: u32,
+    pub cycles: u32,
 }

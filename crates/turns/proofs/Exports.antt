@@ -4,13 +4,12 @@ use mathlib.Core.Path.{◌≡◌, refl, sym, ap, ◌∙◌}
 use mathlib.Core.List.{List}
 use Prim.Native.Nat.{ℕ}
 use lib.ListN.{length}
+use Rattle.std.specs.Prelude.{Some, None, Ok, Err}
 use Rattle.slices.specs.Lists.{mapped}
 use Rattle.slices.proofs.Lookup.{length_mapped}
 use Rattle.run_numbers.specs.Runs.{state_of}
 use Rattle.seats.specs.Room.{Room}
-use Rattle.seats.specs.Turn.{TurnCall, turn_of}
-use Rattle.seats.specs.declared.TurnAnswer.{TurnAnswer}
-use Rattle.seats.specs.declared.TurnAnswer.TheVariants.{Refused, NoneCan, Ran}
+use Rattle.seats.specs.Turn.{TurnCall, TurnAnswer, turn_of}
 use Rattle.seats.proofs.Promises.{turn_promise, places_kept, room_promise}
 use Rattle.scheduling.specs.declared.SeatNumbers.{SeatNumbers}
 use Rattle.scheduling.specs.internal.Places.{EightNumbers}
@@ -20,9 +19,9 @@ use Rattle.turns.specs.Exported.{turn_numbers, TurnNumbered}
 use Rattle.turns.specs.declared.TurnNumbers.{TurnNumbers}
 
 seats_in : (a : TurnAnswer) (x : SeatNumbers) → (turn_numbers a x).7 ≡ x
-seats_in (Refused k) x = refl
-seats_in NoneCan x = refl
-seats_in (Ran i next y steps cycles) x = refl
+seats_in (Err r) x = refl
+seats_in (Ok None) x = refl
+seats_in (Ok (Some t)) x = refl
 
 pub numbered : (c : TurnCall) (w : Room) (x : SeatNumbers) (a : TurnReport) (r : TurnNumbers) (ram stack rolls : List ℕ)
     → TurnedAs c w x a ram stack rolls → (r ≡ turn_numbers a.answer a.seats) × EightNumbers a.seats.0 a.seats.1 → TurnNumbered c w x r ram stack rolls

@@ -1,13 +1,11 @@
 -- A turn's report as numbers, and what the export promises.
 -- Assumes nothing.
-use Rattle.std.specs.Prelude.{ℕ, ◌≡◌, true, false, List}
+use Rattle.std.specs.Prelude.{ℕ, ◌≡◌, true, false, List, Some, None, Ok, Err}
 use Rattle.slices.specs.Lists.{mapped}
 use Rattle.run_numbers.specs.Runs.{state_of, stop_number}
 use Rattle.seats.specs.Room.{Room, EightPlaces}
 use Rattle.seats.specs.RoomPromise.{RoomPromise}
-use Rattle.seats.specs.Turn.{TurnCall, turn_of, TurnPromise}
-use Rattle.seats.specs.declared.TurnAnswer.{TurnAnswer}
-use Rattle.seats.specs.declared.TurnAnswer.TheVariants.{Refused, NoneCan, Ran}
+use Rattle.seats.specs.Turn.{TurnCall, TurnAnswer, refusal_number, turn_of, TurnPromise}
 use Rattle.scheduling.specs.declared.SeatNumbers.{SeatNumbers}
 use Rattle.seating.specs.Reports.{numbers_after}
 use Rattle.turns.specs.declared.TurnNumbers.{TurnNumbers}
@@ -15,9 +13,9 @@ use Rattle.turns.specs.declared.TurnNumbers.{TurnNumbers}
 -- 02's number, whether a seat ran, its stop, steps and cycles, that seat, the seat after it, and the numbers of all seats. A refusal has only its
 -- number, and "where none can go on it only says so": 0 and no seat
 abbrev pub turn_numbers : TurnAnswer → SeatNumbers → TurnNumbers
-turn_numbers (Refused k) x = (k, false, 0, 0, 0, 0, 0, x)
-turn_numbers NoneCan x = (0, false, 0, 0, 0, 0, 0, x)
-turn_numbers (Ran i next y steps cycles) x = (0, true, stop_number y, steps, cycles, i, next, x)
+turn_numbers (Err r) x = (refusal_number r, false, 0, 0, 0, 0, 0, x)
+turn_numbers (Ok None) x = (0, false, 0, 0, 0, 0, 0, x)
+turn_numbers (Ok (Some t)) x = (0, true, stop_number t.stop, t.steps, t.cycles, t.seat, t.next, x)
 
 -- the whole outcome of a turn's call c in the room w, whose seats are lent as the numbers x, as numbers and lent memory. Opcodes, arguments, keys
 -- and all lengths are only read

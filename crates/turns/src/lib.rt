@@ -3,7 +3,7 @@
 #![tactic(auto)]
 
 ghost use Rattle.std.specs.Prelude.{◌≡◌};
-ghost use Rattle.seats.specs.Turn.{turn_call};
+ghost use Rattle.seats.specs.Turn.{turn_call, refusal_number};
 ghost use Rattle.scheduling.specs.Numbers.{room_of};
 ghost use Rattle.scheduling.specs.internal.Places.{EightNumbers};
 ghost use Rattle.turns.specs.Exported.{turn_numbers, TurnNumbered};
@@ -11,7 +11,7 @@ ghost use Rattle.turns.specs.Exported.{turn_numbers, TurnNumbered};
 use run_numbers::{StateNumbers, stop_number};
 use scheduling::places::seats_of;
 use scheduling::{SeatLengths, SeatNumbers};
-use seats::TurnAnswer;
+use seats::{SeatTurn, TurnRefusal};
 
 // A turn's report: number, whether a seat ran, its stop, steps and cycles, that seat, the seat after
 // it, and the seats.
@@ -28,17 +28,40 @@ pub struct TurnNumbers(
     pub SeatNumbers,
 );
 
+// 02's number of a refused turn.
+fn refusal_number(refusal: TurnRefusal) -> u8
+    ensures { result ≡ refusal_number refusal }
+{
+    match refusal {
+        TurnRefusal::BadSeats => 28,
+        TurnRefusal::BadSlice => 29,
+        TurnRefusal::BadBuffers => 17,
+        TurnRefusal::BadPositions => 18,
+    }
+}
+
 // The numbers of a turn's report.
-fn turn_numbers(answer: TurnAnswer, states: [StateNumbers; 8], positions: [usize; 8]) -> TurnNumbers
+fn turn_numbers(
+    answer: Result<Option<SeatTurn>, TurnRefusal>,
+    states: [StateNumbers; 8],
+    positions: [usize; 8],
+) -> TurnNumbers
     ensures { (result ≡ turn_numbers answer (states, positions)) × EightNumbers states positions }
 {
     let seats = seats_of(states, positions);
     match answer {
-        TurnAnswer::Refused(number) => TurnNumbers(number, false, 0, 0, 0, 0, 0, seats),
-        TurnAnswer::NoneCan => TurnNumbers(0, false, 0, 0, 0, 0, 0, seats),
-        TurnAnswer::Ran(i, next, stop, steps, cycles) => {
-            TurnNumbers(0, true, stop_number(stop), steps, cycles, i, next, seats)
-        }
+        Err(refusal) => TurnNumbers(refusal_number(refusal), false, 0, 0, 0, 0, 0, seats),
+        Ok(None) => TurnNumbers(0, false, 0, 0, 0, 0, 0, seats),
+        Ok(Some(turn)) => TurnNumbers(
+            0,
+            true,
+            stop_number(turn.stop),
+            turn.steps,
+            turn.cycles,
+            turn.seat,
+            turn.next,
+            seats,
+        ),
     }
 }
 

@@ -1,7 +1,6 @@
 -- Which seat the code finds, by what it looks at: opcodes, states, and whether a roll is full.
 -- Assumes nothing.
 use Rattle.std.specs.Prelude.{ℕ, ◌/◌, Bool, not, ◌&&◌, ◌||◌, List, eqb, leb, get_or}
-use Rattle.std.proofs.Math.Option.{Option, none, some}
 use Rattle.alu.specs.Alu.{is_settled}
 use Rattle.model.specs.State.{start_state}
 use Rattle.model.specs.declared.State.{State}
@@ -23,8 +22,3 @@ abbrev pub goes_by : (ops roll_lengths : List ℕ) → (states : List State) →
 goes_by ops roll_lengths states positions i =
     goes_at (get_or (bank_of ops i) (get_or states i start_state).pc 0) (get_or states i start_state)
     (leb (length_at roll_lengths i) (get_or positions i 0))
-
--- the seat that was found, n if none was
-abbrev pub seat_or : ℕ → Option ℕ → ℕ
-seat_or n none = n
-seat_or n (some i) = i
