@@ -22,45 +22,43 @@ pub fn classify(instr: Instr) -> Facts
     ensures { result ≡ facts_of instr }
 {
     match instr {
-        Instr::Alu(_, _, f, _) => Facts(Class::Next(effect(f)), false),
+        Instr::Alu(_, _, f, _) | Instr::AluNone(_, f, _) => Facts(Class::Next(effect(f)), false),
         Instr::AddImm(_, _, _) => Facts(Class::Next(effect(0b0001)), false),
-        Instr::AluNone(_, f, _) => Facts(Class::Next(effect(f)), false),
         Instr::CmpImm(_, _) => Facts(Class::Next(effect(0b0010)), false),
-        Instr::MaskImm(_, _) => Facts(Class::Next(effect(0b0101)), false),
-        Instr::MaskIn(_) => Facts(Class::Next(effect(0b0101)), false),
-        Instr::MovImm(_, _) => Facts(Class::Next(OverflowEffect::Keeps), false),
-        Instr::MovIn(_) => Facts(Class::Next(OverflowEffect::Keeps), false),
-        Instr::Ack => Facts(Class::Next(OverflowEffect::Keeps), false),
-        Instr::StoreAddr(_, _) => Facts(Class::Next(OverflowEffect::Keeps), false),
-        Instr::StoreReg(_, _) => Facts(Class::Next(OverflowEffect::Keeps), false),
+        Instr::MaskImm(_, _) | Instr::MaskIn(_) => Facts(Class::Next(effect(0b0101)), false),
         Instr::Push(a) => Facts(Class::Push(a), false),
-        Instr::LoadAddr(_, _) => Facts(Class::Next(OverflowEffect::Keeps), false),
-        Instr::LoadReg(_, _) => Facts(Class::Next(OverflowEffect::Keeps), false),
         Instr::Pop(_) => Facts(Class::Pop, false),
         Instr::Swap(_, a) => Facts(Class::Swap(a), false),
         Instr::Jmp(i) => Facts(Class::Jump(i), false),
         Instr::JmpReg(_) => Facts(Class::JumpReg, false),
         Instr::Call(i) => Facts(Class::Call(i), false),
         Instr::Ret => Facts(Class::Return, false),
-        Instr::Jz(i) => Facts(Class::Branch(i, false), false),
-        Instr::Jnz(i) => Facts(Class::Branch(i, false), false),
-        Instr::Jc(i) => Facts(Class::Branch(i, false), false),
-        Instr::Jnc(i) => Facts(Class::Branch(i, false), false),
-        Instr::Jv(i) => Facts(Class::Branch(i, true), false),
-        Instr::Jnv(i) => Facts(Class::Branch(i, true), false),
-        Instr::Jlz(i) => Facts(Class::Branch(i, false), false),
-        Instr::Jp(i) => Facts(Class::Branch(i, false), false),
-        Instr::Jgz(i) => Facts(Class::Branch(i, false), false),
-        Instr::Jleu(i) => Facts(Class::Branch(i, false), false),
-        Instr::Jlt(i) => Facts(Class::Branch(i, true), false),
-        Instr::Jle(i) => Facts(Class::Branch(i, true), false),
-        Instr::LcdCmd(_) => Facts(Class::Next(OverflowEffect::Keeps), true),
-        Instr::LcdImm(_) => Facts(Class::Next(OverflowEffect::Keeps), true),
-        Instr::LcdReg(_) => Facts(Class::Next(OverflowEffect::Keeps), true),
-        Instr::LcdMem(_) => Facts(Class::Next(OverflowEffect::Keeps), true),
-        Instr::OutReg(_) => Facts(Class::Next(OverflowEffect::Keeps), false),
-        Instr::OutMem(_) => Facts(Class::Next(OverflowEffect::Keeps), false),
+        Instr::Jv(i) | Instr::Jnv(i) | Instr::Jlt(i) | Instr::Jle(i) => Facts(
+            Class::Branch(i, true),
+            false,
+        ),
+        Instr::Jz(i)
+        | Instr::Jnz(i)
+        | Instr::Jc(i)
+        | Instr::Jnc(i)
+        | Instr::Jlz(i)
+        | Instr::Jp(i)
+        | Instr::Jgz(i)
+        | Instr::Jleu(i) => Facts(Class::Branch(i, false), false),
+        Instr::LcdCmd(_) | Instr::LcdImm(_) | Instr::LcdReg(_) | Instr::LcdMem(_) => Facts(
+            Class::Next(OverflowEffect::Keeps),
+            true,
+        ),
         Instr::Hlt => Facts(Class::Halt, false),
-        Instr::Nop => Facts(Class::Next(OverflowEffect::Keeps), false),
+        Instr::MovImm(_, _)
+        | Instr::MovIn(_)
+        | Instr::Ack
+        | Instr::StoreAddr(_, _)
+        | Instr::StoreReg(_, _)
+        | Instr::LoadAddr(_, _)
+        | Instr::LoadReg(_, _)
+        | Instr::OutReg(_)
+        | Instr::OutMem(_)
+        | Instr::Nop => Facts(Class::Next(OverflowEffect::Keeps), false),
     }
 }

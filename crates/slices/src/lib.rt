@@ -7,24 +7,35 @@ ghost use Rattle.slices.specs.Parts.{part_of};
 // The bytes of a bank.
 pub const BANK_SIZE: usize = 256;
 
-// The byte at a place, 0 past the end.
+// The element at a place, or a default past the end.
+pub fn get_or<T: Copy>(s: &[T], at: usize, default: T) -> T
+    ensures { result ≡ get_or s.now at default }
+{
+    s.get(at).copied().unwrap_or(default)
+}
+
+// An element is put at a place; past the end nothing changes.
+pub fn set<T: Copy>(s: &mut [T], at: usize, x: T)
+    ensures { s.new ≡ set s.old at x }
+{
+    if at < s.len() {
+        s[at] = x;
+    }
+}
+
+// The byte at a place, 0 past the end: bytes are what most callers read, and 0 is what they take there.
 pub fn byte_at(s: &[u8], at: usize) -> u8
     ensures { result ≡ get_or s.now at 0 }
 {
-    if at < s.len() { s[at] } else { 0 }
+    get_or(s, at, 0)
 }
 
 // The n bytes from a place on, or as many of them as there are.
 pub fn part(s: &[u8], at: usize, n: usize) -> &[u8]
     ensures { result.now ≡ part_of s.now at n }
 {
-    if s.len() <= at {
-        return &s[..0];
-    }
-    if s.len() - at <= n {
-        return &s[at..];
-    }
-    &s[at..at + n]
+    let rest = &s[at.min(s.len())..];
+    &rest[..n.min(rest.len())]
 }
 
 // The byte at a place that a byte numbers, as an address or a register; 0 past the end.
@@ -38,8 +49,5 @@ pub fn load(bank: &[u8], a: u8) -> u8
 pub fn store(bank: &mut [u8], a: u8, v: u8)
     ensures { bank.new ≡ set bank.old a v }
 {
-    let i = a as usize;
-    if i < bank.len() {
-        bank[i] = v;
-    }
+    set(bank, a as usize, v);
 }

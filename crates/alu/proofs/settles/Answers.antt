@@ -6,4 +6,4 @@ use Rattle.alu.proofs.settles.Goals as goal
 
 pub returns : goal.returns
 unfolding settles_of
-returns c = c.is_settled.ensures ∙ ap (λ (r : Computed). is_settled r.flags.v) c.alu-computed.ensures.table
+returns c = c.is_settled.ensures ∙ ap (λ (r : Computed). is_settled r.flags.v) c.alu.ensures.table

@@ -1,5 +1,5 @@
 -- Carry and V by the bytes are those of the exact and the signed sum.
-use Rattle.std.proofs.Common.{ap, ◌∙◌}
+use Rattle.std.proofs.Common.{ℕ, ◌+◌, ◌%◌, ◌<◌, ◌≡◌, refl, ap, ◌∙◌, arith}
 use Rattle.alu.specs.Alu.{bit, sum_of}
 use Rattle.alu.specs.declared.Overflow.TheVariants.{Settled}
 use Rattle.alu.proofs.SignBits.{sum_overflow, sum_carries}
@@ -12,11 +12,11 @@ returns c =
     let a = c.args in
     let f = c.ranges in
     let k = bit a.k in
-    let r = c.wrapping_add_u8-r.result in
-    let first = c.wrapping_add_u8-t.ensures.value in
-    let second = rw c.bit_of-n.ensures at c.wrapping_add_u8-r.ensures.value in
-    let whole = wraps_add a.x a.y k first second in
+    let t : ℕ = (a.x + a.y) % 256 in
+    let r : ℕ = (t + c.bit_of-n.result) % 256 in
+    let small : r < 256 = omega arith in
+    let second : r ≡ (t + k) % 256 = ap (λ (n : ℕ). (t + n) % 256) c.bit_of-n.ensures in
+    let whole = wraps_add a.x a.y k refl second in
     c.with_flags.ensures
-    ∙ same_computed whole
-    (sum_carries a.x a.y k r f.x.fits f.y.fits (bit_le a.k) c.wrapping_add_u8-r.type_inv _ first second)
-    (ap Settled (c.both_high-v.ensures ∙ sum_overflow a.x a.y k r f.x.fits f.y.fits (bit_le a.k) c.wrapping_add_u8-r.type_inv whole))
+    ∙ same_computed whole (sum_carries a.x a.y k r f.x.fits f.y.fits (bit_le a.k) small t refl second)
+    (ap Settled (c.both_high-v.ensures ∙ sum_overflow a.x a.y k r f.x.fits f.y.fits (bit_le a.k) small whole))
