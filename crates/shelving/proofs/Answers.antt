@@ -1,12 +1,11 @@
 -- From the numbers written to the file, and the writer's answers.
 -- Assumes nothing.
-use Prim.Native.Nat.{ℕ, zero, suc, ◌+◌, ◌*◌, ◌/◌, ◌≤◌, ◌<◌}
+use Prim.Native.Nat.{ℕ, ◌/◌, ◌≤◌, ◌<◌}
 use native.Mathlib.Omega.{arith}
-use mathlib.Core.Path.{◌≡◌, refl, sym, ap, ◌∙◌}
-use mathlib.Core.Bool.{cond}
+use mathlib.Core.Path.{◌≡◌, sym, ap, ◌∙◌}
 use mathlib.Core.List.{List, [], ◌∷◌, ◌++◌}
 use lib.Dec.{ltb}
-use lib.ListN.{length, get_or, drop}
+use lib.ListN.{length, drop}
 use borrow.Author.Tests.{lt-ltb, ne_eqb}
 use Rattle.std.specs.Prelude.{Ok, Err}
 use Rattle.slices.specs.Checks.{Check, check, first_broken, NoneBroken}
@@ -16,45 +15,29 @@ use Rattle.groups.proofs.Fields.{row_append}
 use Rattle.pages.specs.Page.{Page, page, write_of}
 use Rattle.pages.proofs.Pages.{write_append, write_whole}
 use Rattle.rules.specs.Grounds.{listing_checks}
-use Rattle.rules.specs.Sheet.{Listing, listing, word, routines}
+use Rattle.rules.specs.Sheet.{Listing, routines}
 use Rattle.rules.proofs.Scanning.{or_hit, or_pass, first_append}
 use Rattle.files.specs.Calls.{file_room, write_fault, written, stored, shelved_of}
-use Rattle.files.specs.File.{blank, used_below, least_of, address_numbers, numbers_of, file_of}
+use Rattle.files.specs.File.{least_of, address_numbers, numbers_of, file_of}
 use Rattle.files.specs.Promise.{Passes}
 use Rattle.files.proofs.Promised.{nothing_wrong}
 use Rattle.files.proofs.Short.{file_short}
 use Rattle.files.proofs.Sizes.{good_sizes}
 use Rattle.shelving.proofs.RowsPut.{row_one}
 
--- the list does not matter to the addresses
-least_aside : (o g s l : List ℕ) (m : ℕ) → used_below (listing o g s []) m ≡ used_below (listing o g s l) m
-unfolding used_below word
-least_aside o g s l zero = refl
-least_aside o g s l (suc m) = ap (λ (u : ℕ). cond (blank (listing o g s l) m) u (suc m)) (least_aside o g s l m)
-
-numbers_aside : (o g s l : List ℕ) (a n : ℕ) → address_numbers (listing o g s []) a n ≡ address_numbers (listing o g s l) a n
-unfolding address_numbers word
-numbers_aside o g s l a zero = refl
-numbers_aside o g s l a (suc n) =
-    ap (λ (xs : List ℕ). get_or o a 0 ∷ get_or g a 0 ∷ (get_or s (2 * a) 0 + 256 * get_or s (2 * a + 1) 0) ∷ xs) (numbers_aside o g s l (suc a) n)
-
-pub file_put : (o g s l : List ℕ) (n : ℕ) (p : Page) {q r t u : Page} → n ≡ least_of (listing o g s []) → q ≡ write_of (groups_of n) p
-    → r ≡ write_of (row_of (address_numbers (listing o g s []) 0 n)) q → t ≡ write_of (groups_of (length l / 2)) r → u ≡ write_of (row_of l) t
-    → u ≡ write_of (file_of (listing o g s l)) p
+pub file_put : (L : Listing) (n : ℕ) (p : Page) {q r t u : Page} → n ≡ least_of L → q ≡ write_of (groups_of n) p → r ≡ write_of (row_of (address_numbers L 0 n)) q
+    → t ≡ write_of (groups_of (length L.list / 2)) r → u ≡ write_of (row_of L.list) t → u ≡ write_of (file_of L) p
 unfolding file_of row_of routines
-file_put o g s l n p {q} {r} {t} {u} e a b c d =
-    let L = listing o g s l in
+file_put L n p {q} {r} {t} {u} least a b c d =
     let xs = address_numbers L 0 n in
-    let k = length l / 2 in
-    let least : n ≡ least_of L = e ∙ least_aside o g s l 256 in
-    let after_n : r ≡ write_of (row_of xs) (write_of (groups_of n) p) =
-    b ∙ ap (λ (ys : List ℕ). write_of (row_of ys) q) (numbers_aside o g s l 0 n) ∙ ap (write_of (row_of xs)) a in
-    let after_k : u ≡ write_of (row_of (k ∷ l)) r = d ∙ ap (write_of (row_of l)) c ∙ sym (row_one k l r) in
+    let k = length L.list / 2 in
+    let after_n : r ≡ write_of (row_of xs) (write_of (groups_of n) p) = b ∙ ap (write_of (row_of xs)) a in
+    let after_k : u ≡ write_of (row_of (k ∷ L.list)) r = d ∙ ap (write_of (row_of L.list)) c ∙ sym (row_one k L.list r) in
     after_k
-    ∙ ap (write_of (row_of (k ∷ l))) after_n
-    ∙ sym (write_append (row_of xs) (row_of (k ∷ l)) (write_of (groups_of n) p))
-    ∙ ap (λ (bs : List ℕ). write_of bs (write_of (groups_of n) p)) (sym (row_append xs (k ∷ l)))
-    ∙ sym (row_one n (xs ++ (k ∷ l)) p)
+    ∙ ap (write_of (row_of (k ∷ L.list))) after_n
+    ∙ sym (write_append (row_of xs) (row_of (k ∷ L.list)) (write_of (groups_of n) p))
+    ∙ ap (λ (bs : List ℕ). write_of bs (write_of (groups_of n) p)) (sym (row_append xs (k ∷ L.list)))
+    ∙ sym (row_one n (xs ++ (k ∷ L.list)) p)
     ∙ ap (λ (m : ℕ). write_of (row_of (numbers_of L m)) p) least
 
 pub file_stored : (L : Listing) (before after : List ℕ) (n : ℕ) → Passes L → file_room ≤ length before → page after n ≡ write_of (file_of L) (page before 0)

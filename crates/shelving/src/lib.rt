@@ -7,6 +7,7 @@ ghost use Rattle.groups.specs.Groups.{row_of};
 ghost use Rattle.pages.specs.Page.{page, write_of};
 ghost use Rattle.rules.specs.Grounds.{max_list_size};
 ghost use Rattle.rules.specs.Sheet.{listing, word};
+ghost use Rattle.shelving.specs.internal.Lent.{lent};
 ghost use Rattle.files.specs.Calls.{written, shelved_of};
 ghost use Rattle.files.specs.Faults.{shelved_as};
 ghost use Rattle.files.specs.File.{blank, least_of, address_numbers, file_of};
@@ -15,78 +16,6 @@ use files::{FILE_ROOM, ShelvingFault};
 use groups::put_number;
 use sheets::sizes::listing_sizes;
 use slices::{BANK_SIZE, byte_at};
-
-// The sheet word of an address.
-fn word_at(sheet: &[u8], a: usize) -> u16
-    requires { a < 256 }
-    ensures { result ≡ word (listing [] [] sheet.now []) a }
-{
-    let low = byte_at(sheet, 2 * a);
-    let high = byte_at(sheet, 2 * a + 1);
-    u16::from_le_bytes([low, high])
-}
-
-// Whether opcode, argument and sheet word of an address are 0.
-fn is_blank(opcodes: &[u8], arguments: &[u8], sheet: &[u8], a: usize) -> bool
-    requires { a < 256 }
-    ensures { result ≡ blank (listing opcodes.now arguments.now sheet.now []) a }
-{
-    let opcode = byte_at(opcodes, a);
-    let argument = byte_at(arguments, a);
-    let word = word_at(sheet, a);
-    (opcode == 0) & ((argument == 0) & (word == 0))
-}
-
-// The least n for which every later address is blank.
-fn least(opcodes: &[u8], arguments: &[u8], sheet: &[u8]) -> usize
-    ensures { result ≡ least_of (listing opcodes.now arguments.now sheet.now []) }
-{
-    for a in (0..BANK_SIZE).rev() {
-        if !is_blank(opcodes, arguments, sheet, a) {
-            return a + 1;
-        }
-    }
-    0
-}
-
-// The three numbers of an address are written from a place on; the place after them.
-fn put_address(
-    opcodes: &[u8],
-    arguments: &[u8],
-    sheet: &[u8],
-    out: &mut [u8],
-    at: usize,
-    a: usize,
-) -> usize
-    requires { a < 256 }
-    ensures { page out.new result ≡ write_of (row_of (address_numbers (listing opcodes.now arguments.now sheet.now []) a 1)) (page out.old at) }
-{
-    let opcode = byte_at(opcodes, a);
-    let argument = byte_at(arguments, a);
-    let word = word_at(sheet, a);
-    let after_opcode = put_number(out, at, u32::from(opcode));
-    let after_argument = put_number(out, after_opcode, u32::from(argument));
-    put_number(out, after_argument, u32::from(word))
-}
-
-// The numbers of the first n addresses are written from a place on; the place after them.
-fn put_addresses(
-    opcodes: &[u8],
-    arguments: &[u8],
-    sheet: &[u8],
-    out: &mut [u8],
-    at: usize,
-    n: usize,
-) -> usize
-    requires { n ≤ 256 }
-    ensures { page out.new result ≡ write_of (row_of (address_numbers (listing opcodes.now arguments.now sheet.now []) 0 n)) (page out.old at) }
-{
-    let mut next = at;
-    for a in 0..n {
-        next = put_address(opcodes, arguments, sheet, out, next, a);
-    }
-    next
-}
 
 // Numbers that are bytes are written from a place on; the place after them.
 fn put_bytes(bytes: &[u8], out: &mut [u8], at: usize) -> usize
@@ -99,16 +28,85 @@ fn put_bytes(bytes: &[u8], out: &mut [u8], at: usize) -> usize
     next
 }
 
-// The file of a listing is written from the buffer's beginning; the place after it.
-fn put_file(opcodes: &[u8], arguments: &[u8], sheet: &[u8], list: &[u8], out: &mut [u8]) -> usize
-    requires { length list.now ≤ max_list_size }
-    ensures { page out.new result ≡ write_of (file_of (listing opcodes.now arguments.now sheet.now list.now)) (page out.old 0) }
-{
-    let n = least(opcodes, arguments, sheet);
-    let after_n = put_number(out, 0, n as u32);
-    let after_addresses = put_addresses(opcodes, arguments, sheet, out, after_n, n);
-    let after_count = put_number(out, after_addresses, (list.len() / 2) as u32);
-    put_bytes(list, out, after_count)
+// A listing's parts, as they are lent.
+#[derive(Clone, Copy)]
+struct Parts<'a> {
+    opcodes: &'a [u8],
+    arguments: &'a [u8],
+    sheet: &'a [u8],
+    list: &'a [u8],
+}
+
+impl Parts<'_> {
+    // The sheet word of an address.
+    fn word_at(&self, a: usize) -> u16
+        requires { a < 256 }
+        ensures { result ≡ word (lent self.now) a }
+    {
+        let low = byte_at(self.sheet, 2 * a);
+        let high = byte_at(self.sheet, 2 * a + 1);
+        u16::from_le_bytes([low, high])
+    }
+
+    // Whether opcode, argument and sheet word of an address are 0.
+    fn is_blank(&self, a: usize) -> bool
+        requires { a < 256 }
+        ensures { result ≡ blank (lent self.now) a }
+    {
+        let opcode = byte_at(self.opcodes, a);
+        let argument = byte_at(self.arguments, a);
+        let word = self.word_at(a);
+        (opcode == 0) & ((argument == 0) & (word == 0))
+    }
+
+    // The least n for which every later address is blank.
+    fn least(&self) -> usize
+        ensures { result ≡ least_of (lent self.now) }
+    {
+        for a in (0..BANK_SIZE).rev() {
+            if !self.is_blank(a) {
+                return a + 1;
+            }
+        }
+        0
+    }
+
+    // The three numbers of an address are written from a place on; the place after them.
+    fn put_address(&self, out: &mut [u8], at: usize, a: usize) -> usize
+        requires { a < 256 }
+        ensures { page out.new result ≡ write_of (row_of (address_numbers (lent self.now) a 1)) (page out.old at) }
+    {
+        let opcode = byte_at(self.opcodes, a);
+        let argument = byte_at(self.arguments, a);
+        let word = self.word_at(a);
+        let after_opcode = put_number(out, at, u32::from(opcode));
+        let after_argument = put_number(out, after_opcode, u32::from(argument));
+        put_number(out, after_argument, u32::from(word))
+    }
+
+    // The numbers of the first n addresses are written from a place on; the place after them.
+    fn put_addresses(&self, out: &mut [u8], at: usize, n: usize) -> usize
+        requires { n ≤ 256 }
+        ensures { page out.new result ≡ write_of (row_of (address_numbers (lent self.now) 0 n)) (page out.old at) }
+    {
+        let mut next = at;
+        for a in 0..n {
+            next = self.put_address(out, next, a);
+        }
+        next
+    }
+
+    // The file is written from the buffer's beginning; the place after it.
+    fn put_file(&self, out: &mut [u8]) -> usize
+        requires { length self.now.list.now ≤ max_list_size }
+        ensures { page out.new result ≡ write_of (file_of (lent self.now)) (page out.old 0) }
+    {
+        let n = self.least();
+        let after_n = put_number(out, 0, n as u32);
+        let after_addresses = self.put_addresses(out, after_n, n);
+        let after_count = put_number(out, after_addresses, (self.list.len() / 2) as u32);
+        put_bytes(self.list, out, after_count)
+    }
 }
 
 // The length of the file of a listing, which now stands in the buffer's front; or a refusal, which
@@ -129,5 +127,11 @@ pub fn shelve(
     if out.len() < FILE_ROOM {
         return Err(ShelvingFault::NoRoom);
     }
-    Ok(put_file(opcodes, arguments, sheet, list, out))
+    let parts = Parts {
+        opcodes,
+        arguments,
+        sheet,
+        list,
+    };
+    Ok(parts.put_file(out))
 }

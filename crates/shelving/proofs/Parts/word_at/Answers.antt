@@ -1,7 +1,7 @@
 -- Two bytes, low byte first.
 use native.Mathlib.Omega.{arith}
 use Rattle.rules.specs.Sheet.{word}
-use Rattle.shelving.proofs.word_at.Goals as goal
+use Rattle.shelving.proofs.Parts.word_at.Goals as goal
 
 pub returns : goal.returns
 unfolding word

@@ -3,7 +3,7 @@ use Rattle.pages.specs.Page.{page}
 use Rattle.rules.specs.Sheet.{word}
 use Rattle.files.specs.File.{address_numbers}
 use Rattle.shelving.proofs.RowsPut.{three_put}
-use Rattle.shelving.proofs.put_address.Goals as goal
+use Rattle.shelving.proofs.Parts.put_address.Goals as goal
 
 pub returns : goal.returns
 unfolding address_numbers word

@@ -1,6 +1,6 @@
 -- The three tests are those of `blank`.
 use Rattle.rules.specs.Sheet.{word}
-use Rattle.shelving.proofs.is_blank.Goals as goal
+use Rattle.shelving.proofs.Parts.is_blank.Goals as goal
 
 pub returns : goal.returns
 unfolding word

@@ -1,0 +1,2 @@
+-- Definitions that only contracts of our own functions cite; no promise to a user rests on them.
+pub mod Lent
