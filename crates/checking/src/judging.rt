@@ -3,7 +3,7 @@ ghost use Rattle.std.specs.Prelude.{drop};
 ghost use Rattle.groups.specs.internal.Places.{read_by, place_of, ReadsAs};
 ghost use Rattle.checking.specs.internal.Judges.{addresses_walk, end_by, end_place, bytes_end, list_walk, Judges};
 
-use super::reading::{read_address, read_byte};
+use super::reading::{Address, read_address, read_byte};
 use groups::{FileFault, Refusal, read_field};
 
 // The numbers of n addresses from a place on: whether the last is blank, and the place behind them.
@@ -15,7 +15,7 @@ fn judge_addresses(file: &[u8], at: usize, n: usize) -> Result<(bool, usize), Re
     for _ in 0..n {
         let (address, behind) = read_address(file, next)?;
         next = behind;
-        blank = (address.opcode == 0) & ((address.argument == 0) & (address.word == 0));
+        blank = address == Address::default();
     }
     Ok((blank, next))
 }

@@ -22,7 +22,7 @@ pub fn read_byte(file: &[u8], at: usize) -> Result<(u8, usize), Refusal>
 }
 
 // What the file holds of an address.
-#[derive(Clone, Copy)]
+#[derive(Clone, Copy, Default, PartialEq, Eq)]
 pub struct Address {
     pub opcode: u8,
     pub argument: u8,

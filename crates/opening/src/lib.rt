@@ -21,11 +21,7 @@ use slices::BANK_SIZE;
 fn take_address(file: &[u8], at: usize, more: bool) -> (Address, usize)
     ensures { Takes file.now at more result }
 {
-    let blank = Address {
-        opcode: 0,
-        argument: 0,
-        word: 0,
-    };
+    let blank = Address::default();
     if !more {
         return (blank, at);
     }

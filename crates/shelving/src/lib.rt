@@ -39,6 +39,7 @@ struct Parts<'a> {
 
 impl Parts<'_> {
     // The sheet word of an address.
+    #[tactic(auto, unfolding(rules::specs::Sheet::word))]
     fn word_at(&self, a: usize) -> u16
         requires { a < 256 }
         ensures { result ≡ word (lent self.now) a }
