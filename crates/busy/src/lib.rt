@@ -10,7 +10,7 @@ ghost use Rattle.busy_runs.specs.Busy.{records, busy_outcome, page_size, busy_re
 ghost use Rattle.busy.specs.Exported.{BusyNumbered};
 
 use busy_runs::PAGE_SIZE;
-use model::{Precheck, Ran, Refusal, State};
+use model::{Ran, Refusal, State};
 use ranking::ADDRESSES;
 use run_numbers::{RunNumbers, StateNumbers};
 
@@ -50,11 +50,11 @@ fn refusal(
     page: &[u8],
     budget: u32,
     start: State,
-) -> Precheck
+) -> Result<(), Refusal>
     ensures { result ≡ busy_refusal_of (call opcodes.now arguments.now keys.now budget start ram.now stack.now roll.now) (records counters.now page.now) }
 {
     if (counters.len() != ADDRESSES) | (page.len() < PAGE_SIZE) {
-        return Precheck::Failed(Refusal::BadBank);
+        return Err(Refusal::BadBank);
     }
     calls::refusal(opcodes, arguments, keys, ram, stack, roll, budget, start)
 }
@@ -120,8 +120,8 @@ fn run_busy(
         opcodes, arguments, keys, ram, stack, roll, counters, page, budget, start,
     );
     match check {
-        Precheck::Failed(x) => refused(x, start),
-        Precheck::Passed => run_recorded(
+        Err(x) => refused(x, start),
+        Ok(()) => run_recorded(
             opcodes, arguments, keys, ram, stack, roll, counters, page, budget, start,
         ),
     }

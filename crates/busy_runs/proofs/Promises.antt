@@ -1,6 +1,7 @@
 -- From what the code does to the whole promise of a busy run: its refusals, and the run, counters and page of one that is made.
 -- Assumes nothing.
 use Prim.Native.Nat.{ℕ, ◌*◌, ◌≤◌}
+use Rattle.std.specs.Prelude.{Result, Ok, Err}
 use mathlib.Core.Path.{◌≡◌, refl, sym, ap, ◌∙◌, subst}
 use mathlib.Core.Bool.{Bool, true, false, not}
 use mathlib.Core.List.{List, ◌++◌}
@@ -13,8 +14,7 @@ use Rattle.slices.proofs.Bools.{by_test, neither}
 use Rattle.pages.specs.Page.{Page, page}
 use Rattle.pages.proofs.Pages.{write_whole}
 use Rattle.model.specs.Run.{Call, Outcome, machine_of, reported, run_of, max_budget, refusal_of, answer_number}
-use Rattle.model.specs.declared.Precheck.{Precheck}
-use Rattle.model.specs.declared.Precheck.TheVariants.{Passed, Failed}
+use Rattle.model.specs.declared.Refusal.{Refusal}
 use Rattle.model.specs.declared.Refusal.TheVariants.{BadBank}
 use Rattle.model.proofs.Promises.{precheck_number, first_named, passed_call, failed_call, passed_budget}
 use Rattle.executions.specs.Executed.{counters_of}
@@ -88,35 +88,35 @@ module _ (c : Call) (k : Records) where
   unfolding refusal_of busy_refusal_of
   good_records g = rw g
 
-  pub records_refused : bad_records k ≡ true → busy_refusal_of c k ≡ Failed BadBank
+  pub records_refused : bad_records k ≡ true → busy_refusal_of c k ≡ Err BadBank
   unfolding busy_refusal_of
   records_refused b = rw b
 
-  passed_records : busy_refusal_of c k ≡ Passed → bad_records k ≡ false
+  passed_records : busy_refusal_of c k ≡ Ok tt → bad_records k ≡ false
   passed_records e =
       by_test (bad_records k)
       (λ b. absurd (let f = sym (records_refused b) ∙ e in let z : ◌≡◌ {A = ℕ} 0 1 = cc in omega arith))
       (λ g. g)
 
   -- a call that passes has a budget within its limit, and room for counters and page
-  pub passed_sizes : busy_refusal_of c k ≡ Passed → (c.budget ≤ max_budget) × (length k.counters ≡ counters_number) × (page_size ≤ length k.page)
+  pub passed_sizes : busy_refusal_of c k ≡ Ok tt → (c.budget ≤ max_budget) × (length k.counters ≡ counters_number) × (page_size ≤ length k.page)
   passed_sizes e =
       let g = passed_records e in
       let sizes = neither (not (eqb (length k.counters) counters_number)) (ltb (length k.page) page_size) g in
       (passed_budget c (sym (good_records g) ∙ e), eqb-true _ _ (not_false _ sizes.0), ltb-false _ _ sizes.1)
 
   -- an outcome by what the rules say
-  pub promised : (v : Precheck) (o : BusyOutcome) → v ≡ busy_refusal_of c k → BusyBy v c k o → BusyPromise c k o
+  pub promised : (v : Result (Unit {0}) Refusal) (o : BusyOutcome) → v ≡ busy_refusal_of c k → BusyBy v c k o → BusyPromise c k o
   unfolding busy_refusal_of
-  promised (Failed r) o q b =
+  promised (Err r) o q b =
       record {
-        outcome = subst (λ (v : Precheck). BusyBy v c k o) q b;
+        outcome = subst (λ (v : Result (Unit {0}) Refusal). BusyBy v c k o) q b;
         refuses = first_named (busy_causes c k) _ (ap (λ (x : BusyOutcome). answer_number x.run.answer) b ∙ ap precheck_number q);
         as_run = λ g. ap (λ (x : BusyOutcome). x.run) b ∙ sym (failed_call c r (sym (good_records g) ∙ sym q));
       }
-  promised Passed o q b =
+  promised (Ok p) o q b =
       record {
-        outcome = subst (λ (v : Precheck). BusyBy v c k o) q b;
+        outcome = subst (λ (v : Result (Unit {0}) Refusal). BusyBy v c k o) q b;
         refuses = first_named (busy_causes c k) _ (ap (λ (x : Outcome). answer_number x.answer) b.run ∙ ap precheck_number q);
         as_run = λ g. b.run ∙ sym (passed_call c (sym (good_records g) ∙ sym q));
       }

@@ -6,8 +6,6 @@ use Rattle.slices.specs.Lists.{total_of}
 use Rattle.model.specs.Run.{Call, Outcome, Cause, cause, causes, first_cause, machine_of, reported, refused_of, run_of, call_of, answer_number, checks_of}
 use Rattle.model.specs.declared.Ran.{Ran}
 use Rattle.model.specs.declared.Refusal.{Refusal}
-use Rattle.model.specs.declared.Precheck.{Precheck}
-use Rattle.model.specs.declared.Precheck.TheVariants.{Passed, Failed}
 use Rattle.model.specs.declared.Refusal.TheVariants.{BadBank}
 use Rattle.executions.specs.Executed.{executed_of, counters_of}
 use Rattle.ranking.specs.Busier.{is_executed, busier}
@@ -47,7 +45,7 @@ bad_records k = not (eqb (length k.counters) counters_number) || ltb (length k.p
 abbrev pub busy_causes : Call → Records → List Cause
 busy_causes c k = cause BadBank (bad_records k) ∷ causes c
 
-unfoldable pub busy_refusal_of : Call → Records → Precheck
+unfoldable pub busy_refusal_of : Call → Records → Result (Unit {0}) Refusal
 busy_refusal_of c k = first_cause (busy_causes c k)
 
 abbrev pub busy_checks : Call → Records → List Check
@@ -95,9 +93,9 @@ pub record BusyRan (c : Call) (k : Records) (o : BusyOutcome) : Type 0 where
 -- ---- the whole outcome
 
 -- a refusal leaves everything lent as it was, and has no line
-abbrev pub BusyBy : Precheck → Call → Records → BusyOutcome → Type 0
-BusyBy (Failed r) c k o = o ≡ busy_outcome (refused_of r c) 0 k
-BusyBy Passed c k o = BusyRan c k o
+abbrev pub BusyBy : Result (Unit {0}) Refusal → Call → Records → BusyOutcome → Type 0
+BusyBy (Err r) c k o = o ≡ busy_outcome (refused_of r c) 0 k
+BusyBy (Ok p) c k o = BusyRan c k o
 
 pub record BusyPromise (c : Call) (k : Records) (o : BusyOutcome) : Type 0 where
   pub outcome : BusyBy (busy_refusal_of c k) c k o

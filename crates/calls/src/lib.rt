@@ -6,7 +6,7 @@ ghost use Rattle.model.specs.Run.{call, refusal_of};
 ghost use Rattle.model.specs.State.{start_state};
 
 use alu::{Flags, Overflow};
-use model::{MAX_BUDGET, Precheck, Refusal, State};
+use model::{MAX_BUDGET, Refusal, State};
 use slices::BANK_SIZE;
 
 // 01's start state.
@@ -39,18 +39,18 @@ pub fn refusal(
     roll: &[u16],
     budget: u32,
     start: State,
-) -> Precheck
+) -> Result<(), Refusal>
     ensures { result ≡ refusal_of (call opcodes.now arguments.now keys.now budget start ram.now stack.now roll.now) }
 {
     let n = BANK_SIZE;
     if (opcodes.len() != n) | (arguments.len() != n) | (ram.len() != n) | (stack.len() != n) {
-        return Precheck::Failed(Refusal::BadBank);
+        return Err(Refusal::BadBank);
     }
     if keys.len() < start.position {
-        return Precheck::Failed(Refusal::BadPosition);
+        return Err(Refusal::BadPosition);
     }
     if MAX_BUDGET < budget {
-        return Precheck::Failed(Refusal::BadBudget);
+        return Err(Refusal::BadBudget);
     }
-    Precheck::Passed
+    Ok(())
 }

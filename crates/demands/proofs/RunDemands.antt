@@ -10,8 +10,8 @@ use Rattle.model.specs.RunPromise.{Counted}
 use Rattle.model.specs.Time.{time_of, time_number}
 use Rattle.model.specs.declared.Ran.{Ran}
 use Rattle.model.specs.declared.Refusal.{Refusal}
-use Rattle.model.specs.declared.RunningTime.{RunningTime}
-use Rattle.model.specs.declared.RunningTime.TheVariants.{Tenths, BadClock, BadCycles}
+use Rattle.model.specs.declared.TimeError.{TimeError}
+use Rattle.model.specs.declared.TimeError.TheVariants.{BadClock, BadCycles}
 use Rattle.model.specs.declared.State.{State}
 use Rattle.model.specs.declared.Stop.{Stop}
 use Rattle.model.specs.declared.Stop.TheVariants.{Halted, Spent, Unsettled, Full}
@@ -90,15 +90,15 @@ module _ (c : Call) (r : RunNumbers) (ram stack roll : List ℕ) (n : RunNumbere
 
 -- ---- a running time
 
-number_of_time : (t : RunningTime) → (time_numbers t).0 ≡ time_number t
-number_of_time (Tenths n) = refl
-number_of_time BadClock = refl
-number_of_time BadCycles = refl
+number_of_time : (t : Result ℕ TimeError) → (time_numbers t).0 ≡ time_number t
+number_of_time (Ok n) = refl
+number_of_time (Err BadClock) = refl
+number_of_time (Err BadCycles) = refl
 
-time_alone : (t : RunningTime) → ((time_numbers t).0 ≡ 0 → ⊥) → time_numbers t ≡ ((time_numbers t).0, 0)
-time_alone (Tenths n) h = absurd (h refl)
-time_alone BadClock h = refl
-time_alone BadCycles h = refl
+time_alone : (t : Result ℕ TimeError) → ((time_numbers t).0 ≡ 0 → ⊥) → time_numbers t ≡ ((time_numbers t).0, 0)
+time_alone (Ok n) h = absurd (h refl)
+time_alone (Err BadClock) h = refl
+time_alone (Err BadCycles) h = refl
 
 pub time_first : (cycles clock : ℕ) (r : TimeNumbers) → TimeNumbered cycles clock r → FirstOfTime cycles clock r
 time_first cycles clock r n =

@@ -3,6 +3,7 @@
 use mathlib.Core.Path.{◌≡◌, refl, ◌∙◌}
 use mathlib.Core.List.{List, [], ◌∷◌}
 use Prim.Native.Nat.{ℕ, ◌<◌, ◌≤◌}
+use Rattle.std.specs.Prelude.{Result, Ok, Err}
 use native.Mathlib.Nat.{zero-add}
 use native.Mathlib.Omega.{arith}
 use borrow.Author.Tests.{ltb-false}
@@ -12,8 +13,6 @@ use Rattle.slices.proofs.Checks.{Numbered, first_violation}
 use Rattle.model.specs.Run.{run_of, Call, Outcome, machine_of, reported, refused_of, Cause, max_budget, causes, first_cause, refusal_of, call_of, refusal_number, checks_of, run_checks}
 use Rattle.model.specs.RunPromise.{Counted, LengthsKept, RunPromise}
 use Rattle.model.specs.Time.{bad_clock, bad_cycles, time_of, time_number, time_checks, TimePromise}
-use Rattle.model.specs.declared.Precheck.{Precheck}
-use Rattle.model.specs.declared.Precheck.TheVariants.{Passed, Failed}
 use Rattle.model.specs.declared.Refusal.{Refusal}
 use Rattle.model.specs.declared.Refusal.TheVariants.{BadBank, BadPosition, BadBudget}
 use Rattle.model.proofs.Kept.{run_keeps}
@@ -22,9 +21,9 @@ use Rattle.model.proofs.Runs.{runs_on, machine_runs_on}
 use Rattle.model.proofs.Traces.{run_steps, run_cycles, trace_fits}
 
 -- by the two cases of a precheck, with the equation
-pub by_precheck {ℓ} : {A : Type ℓ} (v : Precheck) → ((r : Refusal) → v ≡ Failed r → A) → (v ≡ Passed → A) → A
-by_precheck (Failed r) f g = f r refl
-by_precheck Passed f g = g refl
+pub by_precheck {ℓ} : {A : Type ℓ} (v : Result (Unit {0}) Refusal) → ((r : Refusal) → v ≡ Err r → A) → (v ≡ Ok tt → A) → A
+by_precheck (Err r) f g = f r refl
+by_precheck (Ok p) f g = g refl
 
 refusal_numbered : (r : Refusal) → 0 < refusal_number r
 refusal_numbered BadBank = omega arith
@@ -35,9 +34,9 @@ checks_numbered : (xs : List Cause) → Numbered (checks_of xs)
 checks_numbered [] = tt
 checks_numbered (x ∷ xs) = (refusal_numbered x.refusal, checks_numbered xs)
 
-abbrev pub precheck_number : Precheck → ℕ
-precheck_number (Failed r) = refusal_number r
-precheck_number Passed = 0
+abbrev pub precheck_number : Result (Unit {0}) Refusal → ℕ
+precheck_number (Err r) = refusal_number r
+precheck_number (Ok p) = 0
 
 -- the first cause has the number of the first broken rule
 number_is : (xs : List Cause) → precheck_number (first_cause xs) ≡ first_broken (checks_of xs)
@@ -49,15 +48,15 @@ number_is (x ∷ xs) = by_test x.given (λ q. rw (q, first_broken) (omega arith)
 pub first_named : (xs : List Cause) (n : ℕ) → n ≡ precheck_number (first_cause xs) → FirstViolation (checks_of xs) n
 first_named xs n e = rw (e ∙ number_is xs) (first_violation (checks_of xs) (checks_numbered xs))
 
-passes : (xs : List Cause) → NoneBroken (checks_of xs) → first_cause xs ≡ Passed
+passes : (xs : List Cause) → NoneBroken (checks_of xs) → first_cause xs ≡ Ok tt
 passes [] p = refl
 passes (x ∷ xs) p = rw p.0 (passes xs p.1)
 
-none_given : (xs : List Cause) → first_cause xs ≡ Passed → NoneBroken (checks_of xs)
+none_given : (xs : List Cause) → first_cause xs ≡ Ok tt → NoneBroken (checks_of xs)
 none_given [] e = tt
 none_given (x ∷ xs) e =
     by_test x.given
-    (λ q. let f : Failed x.refusal ≡ Passed = rw q at e in absurd (let z : ◌≡◌ {A = ℕ} 0 1 = cc in omega arith))
+    (λ q. let f : Err x.refusal ≡ Ok tt = rw q at e in absurd (let z : ◌≡◌ {A = ℕ} 0 1 = cc in omega arith))
     (λ q. (q, none_given xs (rw q at e)))
 
 module _ (c : Call) where
@@ -76,7 +75,7 @@ module _ (c : Call) where
   unfolding refusal_of
   violation n e = first_named (causes c) n e
 
-  refused_promise : (r : Refusal) → refusal_of c ≡ Failed r → RunPromise c (refused_of r c)
+  refused_promise : (r : Refusal) → refusal_of c ≡ Err r → RunPromise c (refused_of r c)
   unfolding call_of refusal_of
   refused_promise r e =
       record {
@@ -91,7 +90,7 @@ module _ (c : Call) where
         mov_clears = mov_clears c.setting;
       }
 
-  ran_promise : refusal_of c ≡ Passed → RunPromise c ran
+  ran_promise : refusal_of c ≡ Ok tt → RunPromise c ran
   unfolding call_of refusal_of
   ran_promise e =
       record {
@@ -111,24 +110,24 @@ module _ (c : Call) where
   run_promise = by_precheck (refusal_of c) (λ r e. rw e (refused_promise r e)) (λ e. rw e (ran_promise e))
 
 -- a call that breaks no rule passes and is run; one that fails is refused
-pub checks_pass : (c : Call) → NoneBroken (run_checks c) → refusal_of c ≡ Passed
+pub checks_pass : (c : Call) → NoneBroken (run_checks c) → refusal_of c ≡ Ok tt
 unfolding refusal_of
 checks_pass c p = passes (causes c) p
 
-pub passed_checks : (c : Call) → refusal_of c ≡ Passed → NoneBroken (run_checks c)
+pub passed_checks : (c : Call) → refusal_of c ≡ Ok tt → NoneBroken (run_checks c)
 unfolding refusal_of
 passed_checks c e = none_given (causes c) e
 
-pub passed_call : (c : Call) → refusal_of c ≡ Passed → call_of c ≡ reported (run_of c.setting c.budget (machine_of c))
+pub passed_call : (c : Call) → refusal_of c ≡ Ok tt → call_of c ≡ reported (run_of c.setting c.budget (machine_of c))
 unfolding call_of
 passed_call c e = rw e
 
-pub failed_call : (c : Call) (r : Refusal) → refusal_of c ≡ Failed r → call_of c ≡ refused_of r c
+pub failed_call : (c : Call) (r : Refusal) → refusal_of c ≡ Err r → call_of c ≡ refused_of r c
 unfolding call_of
 failed_call c r e = rw e
 
 -- a call that passes has a budget within its limit
-pub passed_budget : (c : Call) → refusal_of c ≡ Passed → c.budget ≤ max_budget
+pub passed_budget : (c : Call) → refusal_of c ≡ Ok tt → c.budget ≤ max_budget
 unfolding refusal_of
 passed_budget c e = ltb-false _ _ (none_given (causes c) e).1.1.0
 

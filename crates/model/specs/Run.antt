@@ -10,8 +10,6 @@ use Rattle.isa.specs.declared.Instr.{Instr}
 use Rattle.slices.specs.Checks.{Check, check}
 use Rattle.slices.specs.Sizes.{bad_bank}
 use Rattle.model.specs.Step.{Setting, setting, Core, Machine, machine_at, next_instr, step_of}
-use Rattle.model.specs.declared.Precheck.{Precheck}
-use Rattle.model.specs.declared.Precheck.TheVariants.{Passed, Failed}
 use Rattle.model.specs.declared.Ran.{Ran}
 use Rattle.model.specs.declared.Refusal.{Refusal}
 use Rattle.model.specs.declared.Refusal.TheVariants.{BadBank, BadPosition, BadBudget}
@@ -185,17 +183,17 @@ cause r b = record { refusal = r; given = b }
 abbrev pub causes : Call → List Cause
 causes c = cause BadBank (bad_banks c) ∷ cause BadPosition (bad_position c) ∷ cause BadBudget (bad_budget c) ∷ []
 
-abbrev pub first_cause : List Cause → Precheck
-first_cause [] = Passed
-first_cause (x ∷ xs) = cond x.given (Failed x.refusal) (first_cause xs)
+abbrev pub first_cause : List Cause → Result (Unit {0}) Refusal
+first_cause [] = Ok tt
+first_cause (x ∷ xs) = cond x.given (Err x.refusal) (first_cause xs)
 
-unfoldable pub refusal_of : Call → Precheck
+unfoldable pub refusal_of : Call → Result (Unit {0}) Refusal
 refusal_of c = first_cause (causes c)
 
 -- the whole outcome of a call
-abbrev pub outcome_by : Precheck → Call → Outcome
-outcome_by (Failed r) c = refused_of r c
-outcome_by Passed c = reported (run_of c.setting c.budget (machine_of c))
+abbrev pub outcome_by : Result (Unit {0}) Refusal → Call → Outcome
+outcome_by (Err r) c = refused_of r c
+outcome_by (Ok p) c = reported (run_of c.setting c.budget (machine_of c))
 
 unfoldable pub call_of : Call → Outcome
 call_of c = outcome_by (refusal_of c) c

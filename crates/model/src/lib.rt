@@ -58,13 +58,6 @@ pub enum Refusal {
     BadBudget,
 }
 
-// Whether a call passes its rules, or the first that it breaks.
-#[derive(Clone, Copy)]
-pub enum Precheck {
-    Passed,
-    Failed(Refusal),
-}
-
 // What a run reports beside the state: where it stopped, after how many steps and cycles, and how many
 // words the roll then has.
 #[derive(Clone, Copy)]
@@ -83,10 +76,9 @@ pub struct Report {
     pub state: State,
 }
 
-// A running time in tenths of a second, or why there is none.
+// Why there is no running time.
 #[derive(Clone, Copy)]
-pub enum RunningTime {
-    Tenths(u32),
+pub enum TimeError {
     BadClock,
     BadCycles,
 }

@@ -10,9 +10,9 @@ use lib.Dec.{eqb}
 use lib.ListN.{length, replicate}
 use borrow.Author.Tests.{not-false}
 use Rattle.model.proofs.NeverFull.{never_full}
+use Rattle.std.specs.Prelude.{Ok}
 use Rattle.model.specs.Run.{machine_of, refusal_of, call_of}
 use Rattle.model.specs.State.{start_state}
-use Rattle.model.specs.declared.Precheck.TheVariants.{Passed}
 use Rattle.model.specs.declared.Stop.{Stop}
 use Rattle.model.specs.declared.Stop.TheVariants.{Halted, Spent, Unsettled, Full}
 use Rattle.rules.specs.Demand.{Starts, Holds}
@@ -47,7 +47,7 @@ module _ (L : Listing) where
   unfolding admit_by checks_by
   good_banks e = both _ _ (not-false _ (none_broken (checks L) (numbered_checks L) e).0)
 
-  passes : admit_of L ≡ 0 → refusal_of (desk_call L.program.opcodes L.program.arguments start_state) ≡ Passed
+  passes : admit_of L ≡ 0 → refusal_of (desk_call L.program.opcodes L.program.arguments start_state) ≡ Ok tt
   unfolding refusal_of
   passes e = let b = good_banks e in rw (b.0, b.1)
 

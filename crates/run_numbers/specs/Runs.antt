@@ -8,8 +8,8 @@ use Rattle.model.specs.RunPromise.{RunPromise}
 use Rattle.model.specs.Time.{time_of, time_number, TimePromise}
 use Rattle.model.specs.declared.Ran.{Ran}
 use Rattle.model.specs.declared.Refusal.{Refusal}
-use Rattle.model.specs.declared.RunningTime.{RunningTime}
-use Rattle.model.specs.declared.RunningTime.TheVariants.{Tenths, BadClock, BadCycles}
+use Rattle.model.specs.declared.TimeError.{TimeError}
+use Rattle.model.specs.declared.TimeError.TheVariants.{BadClock, BadCycles}
 use Rattle.model.specs.declared.State.{State}
 use Rattle.model.specs.declared.Stop.{Stop}
 use Rattle.model.specs.declared.Stop.TheVariants.{Halted, Spent, Unsettled, Full}
@@ -63,10 +63,10 @@ pub record RunNumbered (c : Call) (r : RunNumbers) (ram stack roll : List ℕ) :
   pub promise : RunPromise c (call_of c)
 
 -- 01's number, and the tenths, 0 where there are none
-abbrev pub time_numbers : RunningTime → TimeNumbers
-time_numbers (Tenths n) = (0, n)
-time_numbers BadClock = (time_number BadClock, 0)
-time_numbers BadCycles = (time_number BadCycles, 0)
+abbrev pub time_numbers : Result ℕ TimeError → TimeNumbers
+time_numbers (Ok n) = (0, n)
+time_numbers (Err BadClock) = (time_number (Err BadClock), 0)
+time_numbers (Err BadCycles) = (time_number (Err BadCycles), 0)
 
 -- a running time as numbers, and what is promised of it
 pub record TimeNumbered (cycles clock : ℕ) (r : TimeNumbers) : Type 0 where

@@ -7,7 +7,7 @@ ghost use Rattle.model.specs.Run.{refusal_number};
 ghost use Rattle.run_numbers.specs.Runs.{overflow_of, state_of, state_numbers, stop_number, run_numbers, time_numbers};
 
 use alu::{Flags, Overflow};
-use model::{Ran, Refusal, RunningTime, State, Stop};
+use model::{Ran, Refusal, State, Stop, TimeError};
 use numbers::overflow_number;
 
 // A state: R0 to R3, PC, SP, output register, Z, C, S, V, halted, position.
@@ -125,12 +125,12 @@ pub fn run_numbers(answer: Result<Ran, Refusal>, s: State) -> RunNumbers
 }
 
 // The numbers of a running time.
-pub fn time_numbers(t: RunningTime) -> TimeNumbers
+pub fn time_numbers(t: Result<u32, TimeError>) -> TimeNumbers
     ensures { result ≡ time_numbers t }
 {
     match t {
-        RunningTime::Tenths(n) => TimeNumbers(0, n),
-        RunningTime::BadClock => TimeNumbers(20, 0),
-        RunningTime::BadCycles => TimeNumbers(21, 0),
+        Ok(n) => TimeNumbers(0, n),
+        Err(TimeError::BadClock) => TimeNumbers(20, 0),
+        Err(TimeError::BadCycles) => TimeNumbers(21, 0),
     }
 }
