@@ -2,7 +2,7 @@
 -- admitted or not; a run makes every step up to the first stop, and no other; instruction -> two bytes -> instruction is the identity; two
 -- bytes read and written again differ only in free bits.
 -- Assumes nothing.
-use Rattle.std.specs.Prelude.{ℕ, ◌≤◌, ◌≡◌, Bool, false, not, ◌&&◌, List, leb, length, get_or, Ok}
+use Rattle.std.specs.Prelude.{ℕ, ◌≤◌, ◌≡◌, Bool, false, not, ◌&&◌, List, leb, length, get_or, Option, Some, None, Ok}
 use Rattle.slices.specs.Checks.{NoneBroken}
 use Rattle.alu.specs.Alu.{alu_of, is_settled}
 use Rattle.isa.specs.Decode.{decode_of}
@@ -16,8 +16,6 @@ use Rattle.model.specs.Step.{Setting, Machine, fetched, ram_after, stack_after, 
 use Rattle.model.specs.declared.State.{State}
 use Rattle.model.specs.declared.Stop.{Stop}
 use Rattle.model.specs.declared.Stop.TheVariants.{Halted, Spent, Unsettled, Full}
-use Rattle.model.specs.declared.Verdict.{Verdict}
-use Rattle.model.specs.declared.Verdict.TheVariants.{Go, Stopped}
 use Rattle.numbers.specs.Numbers.{fields_of, instr_of, computed_numbers, fact_numbers_of}
 use Rattle.run_numbers.specs.Runs.{state_numbers}
 use Rattle.numbers.specs.declared.ComputedNumbers.{ComputedNumbers}
@@ -39,21 +37,21 @@ planned x m =
     plan_of (fetched m.core.state) (get_or m.stack m.core.state.sp 0) m.core.ram x.keys (instruction_at_pc x m.core.state)
 
 -- a step asked for at m, with budget left: the verdict, the cycles, and the machine m' left
-pub record SecondOfStep (x : Setting) (m : Machine) (v : Verdict) (cycles : ℕ) (m' : Machine) : Type 0 where
+pub record SecondOfStep (x : Setting) (m : Machine) (v : Option Stop) (cycles : ℕ) (m' : Machine) : Type 0 where
   -- "Before each step the first that holds stops it: halted; ..; V is unsettled; it writes to the roll and the roll is full"
   pub verdict :
       v ≡ first_stop m.core.state.halted false
       (tests_overflow (instruction_at_pc x m.core.state) && not (is_settled m.core.state.flags.v))
       (writes_roll (instruction_at_pc x m.core.state) && leb (length m.core.roll) m.core.words)
-  pub state : v ≡ Go → m'.core.state ≡ (planned x m).state
-  pub data_bank : v ≡ Go → m'.core.ram ≡ ram_after (planned x m).write m.core.ram
-  pub stack_bank : v ≡ Go → m'.stack ≡ stack_after (planned x m).write m.stack
-  pub display : v ≡ Go → m'.core.roll ≡ roll_after (planned x m).write m.core.words m.core.roll
-  pub display_words : v ≡ Go → m'.core.words ≡ words_after (planned x m).write m.core.words
+  pub state : v ≡ None → m'.core.state ≡ (planned x m).state
+  pub data_bank : v ≡ None → m'.core.ram ≡ ram_after (planned x m).write m.core.ram
+  pub stack_bank : v ≡ None → m'.stack ≡ stack_after (planned x m).write m.stack
+  pub display : v ≡ None → m'.core.roll ≡ roll_after (planned x m).write m.core.words m.core.roll
+  pub display_words : v ≡ None → m'.core.words ≡ words_after (planned x m).write m.core.words
   -- "Cycles are 003's column, taken or untaken jumps alike"
-  pub cycles_are : v ≡ Go → cycles ≡ cycles_of (instruction_at_pc x m.core.state)
+  pub cycles_are : v ≡ None → cycles ≡ cycles_of (instruction_at_pc x m.core.state)
   -- "A stopped instruction has done nothing and isn't counted"
-  pub prevented : (y : Stop) → v ≡ Stopped y → (m' ≡ m) × (cycles ≡ 0)
+  pub prevented : (y : Stop) → v ≡ Some y → (m' ≡ m) × (cycles ≡ 0)
 
 -- ---- a run
 

@@ -7,12 +7,12 @@ use mathlib.Core.List.{List, [], ◌∷◌}
 use native.Mathlib.Nat.{zero-add}
 use native.Mathlib.Omega.{arith}
 use lib.ListN.{length}
+use Rattle.std.specs.Prelude.{Some, None}
 use Rattle.slices.specs.Lists.{mapped}
 use Rattle.model.specs.Run.{run_of, trace_of, verdict_of, verdict_at}
 use Rattle.model.specs.Step.{Setting, Machine, step_of}
 use Rattle.model.specs.declared.Stop.{Stop}
 use Rattle.model.specs.declared.Stop.TheVariants.{Halted}
-use Rattle.model.specs.declared.Verdict.TheVariants.{Go, Stopped}
 use Rattle.model.proofs.Traces.{trace_stops, trace_goes, trace_fits, run_steps}
 use Rattle.executions.specs.Executed.{address_of, executed_of}
 
@@ -21,11 +21,11 @@ as_long f [] = refl
 as_long f (x ∷ l) = ap suc (as_long f l)
 
 module _ (x : Setting) where
-  pub executed_goes : (n : ℕ) (m : Machine) → verdict_at x (suc n) m ≡ Go → executed_of x (suc n) m ≡ address_of m ∷ executed_of x n (step_of x m)
+  pub executed_goes : (n : ℕ) (m : Machine) → verdict_at x (suc n) m ≡ None → executed_of x (suc n) m ≡ address_of m ∷ executed_of x n (step_of x m)
   unfolding executed_of
   executed_goes n m e = ap (mapped address_of) (trace_goes x n m e)
 
-  pub executed_stops : (n : ℕ) (m : Machine) (y : Stop) → verdict_at x (suc n) m ≡ Stopped y → executed_of x (suc n) m ≡ []
+  pub executed_stops : (n : ℕ) (m : Machine) (y : Stop) → verdict_at x (suc n) m ≡ Some y → executed_of x (suc n) m ≡ []
   unfolding executed_of
   executed_stops n m y e = ap (mapped address_of) (trace_stops x n m y e)
 

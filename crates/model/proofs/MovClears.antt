@@ -6,6 +6,7 @@ use mathlib.Core.Path.{◌≡◌, refl, sym, ap, ◌∙◌}
 use mathlib.Core.Bool.{Bool, true, false, cond, ◌||◌}
 use mathlib.Core.List.{List}
 use lib.Dec.{eqb-suc-zero}
+use Rattle.std.specs.Prelude.{Some}
 use Rattle.slices.proofs.Bools.{and_off}
 use Rattle.alu.specs.Alu.{alu_of}
 use Rattle.alu.specs.declared.Overflow.TheVariants.{Settled}
@@ -19,7 +20,6 @@ use Rattle.model.specs.State.{next_address, with_pc}
 use Rattle.model.specs.Step.{Setting, Machine, next_instr, fetched, top_of, applied_of, plan_at, step_of}
 use Rattle.model.specs.declared.State.{State}
 use Rattle.model.specs.declared.Stop.TheVariants.{Unsettled}
-use Rattle.model.specs.declared.Verdict.TheVariants.{Stopped}
 use Rattle.model.proofs.Runs.{by_verdict, none_left, run_stops, run_goes}
 use Rattle.model.proofs.Stops.{stop_in, never_unsettled, last_settled}
 use Rattle.model.proofs.Traces.{run_steps}
@@ -49,7 +49,7 @@ jump_leads true s a = refl
 jump_leads false s a = refl
 
 module _ (x : Setting) (m : Machine) (clear : m.core.state.flags.v ≡ Settled false) where
-  never_stopped : (n : ℕ) → verdict_at x n m ≡ Stopped Unsettled → ⊥
+  never_stopped : (n : ℕ) → verdict_at x n m ≡ Some Unsettled → ⊥
   never_stopped n = never_unsettled (next_instr x m) n m.core (rw clear (and_off (tests_overflow (next_instr x m)) false (λ q. refl)))
 
   step_counted : (step_of x m).core.steps ≡ m.core.steps + 1
@@ -60,7 +60,7 @@ module _ (x : Setting) (m : Machine) (clear : m.core.state.flags.v ≡ Settled f
   stopped_later zero e = absurd (last_settled m.core.state.halted (sym (ap stop_in (none_left x m)) ∙ e))
   stopped_later (suc n) e =
       by_verdict (verdict_at x (suc n) m)
-      (λ y q. absurd (never_stopped (suc n) (q ∙ ap Stopped (sym (ap stop_in (run_stops x (suc n) m y q)) ∙ e))))
+      (λ y q. absurd (never_stopped (suc n) (q ∙ ap Some (sym (ap stop_in (run_stops x (suc n) m y q)) ∙ e))))
       (λ q. rw (run_goes x n m q) (omega (arith, step_counted, run_steps x n (step_of x m))))
 
   -- the state after a jump to a by the test b

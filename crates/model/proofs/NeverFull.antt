@@ -7,6 +7,7 @@ use mathlib.Core.Bool.{Bool, true, false, cond, not, ◌&&◌}
 use lib.Dec.{eqb, leb}
 use lib.ListN.{length}
 use borrow.Author.Tests.{leb-true}
+use Rattle.std.specs.Prelude.{Some}
 use Rattle.slices.proofs.Bools.{both}
 use Rattle.alu.specs.Alu.{is_settled}
 use Rattle.isa.specs.Facts.{writes_roll}
@@ -14,7 +15,6 @@ use Rattle.isa.specs.declared.Instr.{Instr}
 use Rattle.model.specs.Run.{tests_overflow, first_stop, verdict_of, verdict_at, run_of}
 use Rattle.model.specs.Step.{Setting, Core, Machine, next_instr, words_after, applied_of, plan_at, step_of}
 use Rattle.model.specs.declared.Stop.TheVariants.{Halted, Spent, Full}
-use Rattle.model.specs.declared.Verdict.TheVariants.{Stopped}
 use Rattle.model.specs.declared.Write.{Write}
 use Rattle.model.specs.declared.Write.TheVariants.{Nothing, Data, Stack, Roll}
 use Rattle.model.proofs.Kept.{step_keeps}
@@ -28,14 +28,14 @@ words_grow (Stack a v) k = omega arith
 words_grow (Roll w) k = omega arith
 
 -- only the last test stops by `full`
-full_holds : (halted spent unsettled full : Bool) → first_stop halted spent unsettled full ≡ Stopped Full → full ≡ true
+full_holds : (halted spent unsettled full : Bool) → first_stop halted spent unsettled full ≡ Some Full → full ≡ true
 full_holds true spent unsettled full e = absurd (let z : ◌≡◌ {A = ℕ} 0 1 = cc in omega arith)
 full_holds false true unsettled full e = absurd (let z : ◌≡◌ {A = ℕ} 0 1 = cc in omega arith)
 full_holds false false true full e = absurd (let z : ◌≡◌ {A = ℕ} 0 1 = cc in omega arith)
 full_holds false false false true e = cc
 full_holds false false false false e = absurd (let z : ◌≡◌ {A = ℕ} 0 1 = cc in omega arith)
 
-no_word_free : (i : Instr) (n : ℕ) (k : Core) → verdict_of i n k ≡ Stopped Full → length k.roll ≤ k.words
+no_word_free : (i : Instr) (n : ℕ) (k : Core) → verdict_of i n k ≡ Some Full → length k.roll ≤ k.words
 unfolding verdict_of
 no_word_free i n k e =
     leb-true (length k.roll) k.words
@@ -58,7 +58,7 @@ module _ (x : Setting) where
       by_verdict (verdict_at x (suc n) m)
       (λ y q.
       let f : y ≡ Full = sym (ap stop_in (run_stops x (suc n) m y q)) ∙ e in
-      let h = no_word_free (next_instr x m) (suc n) m.core (q ∙ ap Stopped f) in
+      let h = no_word_free (next_instr x m) (suc n) m.core (q ∙ ap Some f) in
       omega arith)
       (λ q.
       let k = (step_keeps x m).roll in

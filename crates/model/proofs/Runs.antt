@@ -5,26 +5,25 @@ use mathlib.Core.Bool.{true, cond}
 use Prim.Native.Nat.{ℕ, zero, suc, ◌+◌}
 use native.Mathlib.Nat.{suc-add, zero-add, add-zero}
 use lib.Dec.{eqb-suc-zero}
+use Rattle.std.specs.Prelude.{Option, Some, None}
 use Rattle.slices.proofs.Bools.{by_test}
 use Rattle.model.specs.Run.{Ended, ended, verdict_of, verdict_at, run_of}
 use Rattle.model.specs.Step.{Setting, Machine, step_of}
 use Rattle.model.specs.declared.Stop.{Stop}
 use Rattle.model.specs.declared.Stop.TheVariants.{Halted, Spent}
-use Rattle.model.specs.declared.Verdict.{Verdict}
-use Rattle.model.specs.declared.Verdict.TheVariants.{Go, Stopped}
 
 -- by the two cases of a verdict, with the equation
-pub by_verdict {ℓ} : {A : Type ℓ} (v : Verdict) → ((y : Stop) → v ≡ Stopped y → A) → (v ≡ Go → A) → A
-by_verdict (Stopped y) f g = f y refl
-by_verdict Go f g = g refl
+pub by_verdict {ℓ} : {A : Type ℓ} (v : Option Stop) → ((y : Stop) → v ≡ Some y → A) → (v ≡ None → A) → A
+by_verdict (Some y) f g = f y refl
+by_verdict None f g = g refl
 
 module _ (x : Setting) where
-  pub run_stops : (n : ℕ) (m : Machine) (y : Stop) → verdict_at x n m ≡ Stopped y → run_of x n m ≡ ended y m
+  pub run_stops : (n : ℕ) (m : Machine) (y : Stop) → verdict_at x n m ≡ Some y → run_of x n m ≡ ended y m
   unfolding run_of
   run_stops zero m y e = rw (e, run_of)
   run_stops (suc n) m y e = rw (e, run_of)
 
-  pub run_goes : (n : ℕ) (m : Machine) → verdict_at x (suc n) m ≡ Go → run_of x (suc n) m ≡ run_of x n (step_of x m)
+  pub run_goes : (n : ℕ) (m : Machine) → verdict_at x (suc n) m ≡ None → run_of x (suc n) m ≡ run_of x n (step_of x m)
   unfolding run_of
   run_goes n m e = rw (e, run_of)
 

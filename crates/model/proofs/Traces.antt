@@ -6,10 +6,10 @@ use Prim.Native.Nat.{ℕ, zero, suc, ◌+◌, ◌≤◌, zero-le, suc-le-suc}
 use native.Mathlib.Nat.{add-zero, add_assoc, le_refl}
 use native.Mathlib.Omega.{arith}
 use lib.ListN.{length}
+use Rattle.std.specs.Prelude.{Some, None}
 use Rattle.model.specs.Run.{verdict_at, run_of, trace_of, cycles_in}
 use Rattle.model.specs.Step.{Setting, Machine, step_of}
 use Rattle.model.specs.declared.Stop.{Stop}
-use Rattle.model.specs.declared.Verdict.TheVariants.{Go, Stopped}
 use Rattle.model.proofs.Kept.{step_counts, step_pays}
 use Rattle.model.proofs.Runs.{by_verdict, none_left, run_stops, run_goes}
 
@@ -17,11 +17,11 @@ one_more : (a n : ℕ) → a + 1 + n ≡ a + suc n
 one_more a n = omega arith
 
 module _ (x : Setting) where
-  pub trace_stops : (n : ℕ) (m : Machine) (y : Stop) → verdict_at x (suc n) m ≡ Stopped y → trace_of x (suc n) m ≡ []
+  pub trace_stops : (n : ℕ) (m : Machine) (y : Stop) → verdict_at x (suc n) m ≡ Some y → trace_of x (suc n) m ≡ []
   unfolding trace_of
   trace_stops n m y e = rw (e, trace_of)
 
-  pub trace_goes : (n : ℕ) (m : Machine) → verdict_at x (suc n) m ≡ Go → trace_of x (suc n) m ≡ m ∷ trace_of x n (step_of x m)
+  pub trace_goes : (n : ℕ) (m : Machine) → verdict_at x (suc n) m ≡ None → trace_of x (suc n) m ≡ m ∷ trace_of x n (step_of x m)
   unfolding trace_of
   trace_goes n m e = rw (e, trace_of)
 

@@ -1,6 +1,6 @@
 -- A run (01, 'The machine'): the steps up to the first stop, the trace that it leaves, and the refusals 17, 18 and 19.
 -- Assumes nothing.
-use Rattle.std.specs.Prelude.{ℕ, zero, suc, ◌+◌, Bool, false, not, cond, ◌&&◌, ◌||◌, List, [], ◌∷◌, eqb, leb, ltb, length, Result, Ok, Err}
+use Rattle.std.specs.Prelude.{ℕ, zero, suc, ◌+◌, Bool, false, not, cond, ◌&&◌, ◌||◌, List, [], ◌∷◌, eqb, leb, ltb, length, Result, Ok, Err, Option, Some, None}
 use Rattle.alu.specs.Alu.{is_settled}
 use Rattle.isa.specs.Facts.{class_of, writes_roll}
 use Rattle.isa.specs.Table.{cycles_of}
@@ -16,8 +16,6 @@ use Rattle.model.specs.declared.Refusal.TheVariants.{BadBank, BadPosition, BadBu
 use Rattle.model.specs.declared.State.{State}
 use Rattle.model.specs.declared.Stop.{Stop}
 use Rattle.model.specs.declared.Stop.TheVariants.{Halted, Spent, Unsettled, Full}
-use Rattle.model.specs.declared.Verdict.{Verdict}
-use Rattle.model.specs.declared.Verdict.TheVariants.{Go, Stopped}
 
 -- ---- stops
 
@@ -38,44 +36,44 @@ abbrev pub tests_overflow : Instr → Bool
 tests_overflow i = tests_in (class_of i)
 
 -- "Before each step the first that holds stops it: halted; budget spent; the instruction is jv, jnv, jlt or jle and V is unsettled; it writes
--- to the roll and the roll is full."
-abbrev pub first_stop : Bool → Bool → Bool → Bool → Verdict
+-- to the roll and the roll is full." Where none holds the step is made
+abbrev pub first_stop : Bool → Bool → Bool → Bool → Option Stop
 first_stop halted spent unsettled full =
-    cond halted (Stopped Halted) (cond spent (Stopped Spent) (cond unsettled (Stopped Unsettled) (cond full (Stopped Full) Go)))
+    cond halted (Some Halted) (cond spent (Some Spent) (cond unsettled (Some Unsettled) (cond full (Some Full) None)))
 
 -- n is what is left of the budget
-unfoldable pub verdict_of : Instr → ℕ → Core → Verdict
+unfoldable pub verdict_of : Instr → ℕ → Core → Option Stop
 verdict_of i n k =
     first_stop k.state.halted (eqb n 0) (tests_overflow i && not (is_settled k.state.flags.v))
     (writes_roll i && leb (length k.roll) k.words)
 
-abbrev pub verdict_at : Setting → ℕ → Machine → Verdict
+abbrev pub verdict_at : Setting → ℕ → Machine → Option Stop
 verdict_at x n m = verdict_of (next_instr x m) n m.core
 
 -- ---- a step as a run asks for it
 
 -- the verdict, the cycles and the machine left
 pub record Attempt : Type 0 where
-  pub verdict : Verdict
+  pub verdict : Option Stop
   pub cycles : ℕ
   pub machine : Machine
 
-abbrev pub attempt : Verdict → ℕ → Machine → Attempt
+abbrev pub attempt : Option Stop → ℕ → Machine → Attempt
 attempt v n m = record { verdict = v; cycles = n; machine = m }
 
 -- "A stopped instruction has done nothing and isn't counted"
-abbrev pub attempt_by : Verdict → Setting → Machine → Attempt
-attempt_by (Stopped y) x m = attempt (Stopped y) 0 m
-attempt_by Go x m = attempt Go (cycles_of (next_instr x m)) (step_of x m)
+abbrev pub attempt_by : Option Stop → Setting → Machine → Attempt
+attempt_by (Some y) x m = attempt (Some y) 0 m
+attempt_by None x m = attempt None (cycles_of (next_instr x m)) (step_of x m)
 
 -- where some budget is left
 unfoldable pub attempt_of : Setting → Machine → Attempt
 attempt_of x m = attempt_by (verdict_at x 1 m) x m
 
 -- the steps that an attempt makes
-abbrev pub steps_by : Verdict → ℕ
-steps_by (Stopped y) = 0
-steps_by Go = 1
+abbrev pub steps_by : Option Stop → ℕ
+steps_by (Some y) = 0
+steps_by None = 1
 
 -- ---- a run
 
@@ -87,9 +85,9 @@ pub record Ended : Type 0 where
 abbrev pub ended : Stop → Machine → Ended
 ended y m = record { stop = y; machine = m }
 
-abbrev pub unless_stopped : Verdict → Machine → Ended → Ended
-unless_stopped (Stopped y) m rest = ended y m
-unless_stopped Go m rest = rest
+abbrev pub unless_stopped : Option Stop → Machine → Ended → Ended
+unless_stopped (Some y) m rest = ended y m
+unless_stopped None m rest = rest
 
 -- "it makes every step up to the first stop, and no other". With no budget left the verdict is halted or spent, so what stands for the rest
 -- there is never reached
@@ -98,9 +96,9 @@ run_of x zero m = unless_stopped (verdict_at x zero m) m (ended Spent m)
 run_of x (suc n) m = unless_stopped (verdict_at x (suc n) m) m (run_of x n (step_of x m))
 
 -- the machine before each step of a run
-abbrev pub trace_on : Verdict → List Machine → List Machine
-trace_on (Stopped y) rest = []
-trace_on Go rest = rest
+abbrev pub trace_on : Option Stop → List Machine → List Machine
+trace_on (Some y) rest = []
+trace_on None rest = rest
 
 unfoldable pub trace_of : Setting → ℕ → Machine → List Machine
 trace_of x zero m = []

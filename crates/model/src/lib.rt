@@ -43,13 +43,6 @@ pub enum Stop {
     Full,
 }
 
-// What stands before a step: it is made, or the run stops.
-#[derive(Clone, Copy)]
-pub enum Verdict {
-    Go,
-    Stopped(Stop),
-}
-
 // Why a run is refused.
 #[derive(Clone, Copy)]
 pub enum Refusal {

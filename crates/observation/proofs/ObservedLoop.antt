@@ -10,6 +10,7 @@ use lib.Dec.{eqb, ltb}
 use lib.ListN.{length, get_or, replicate, length-set}
 use lib.Seq.{get_or-set_same, get_or-set_other, set_out}
 use borrow.Author.Tests.{eqb-true, eqb-false, ltb-true, ltb-false}
+use Rattle.std.specs.Prelude.{Option, Some, None}
 use Rattle.slices.specs.Sizes.{bank_size}
 use Rattle.slices.proofs.Bools.{by_test}
 use Rattle.slices.proofs.Lookup.{zeros}
@@ -20,8 +21,6 @@ use Rattle.model.specs.Step.{Setting, Machine, machine_at}
 use Rattle.model.specs.declared.State.{State}
 use Rattle.model.specs.declared.Stop.{Stop}
 use Rattle.model.specs.declared.Stop.TheVariants.{Halted, Spent}
-use Rattle.model.specs.declared.Verdict.{Verdict}
-use Rattle.model.specs.declared.Verdict.TheVariants.{Go, Stopped}
 use Rattle.stepping.proofs.Attempts.{Attempted}
 use Rattle.machine.proofs.RunLoop.{LoopInvariant, loop_starts, loop_goes, loop_stops, loop_halts, loop_ends}
 use Rattle.executions.specs.Executed.{executed_of}
@@ -105,9 +104,9 @@ module _ {x : Setting} {budget : ℕ} {m₀ : Machine} {counters₀ log₀ : Lis
         let f : budget - k ≡ 0 = omega arith in
         ends_here (e ∙ ap reported (loop_ends g.run h)) (ap (λ (j : ℕ). executed_of x j here) f ∙ executed_none x here)
 
-  module _ {s' : State} {ram' stack' roll' : List ℕ} {words' n : ℕ} {v : Verdict} (h : k < budget)
+  module _ {s' : State} {ram' stack' roll' : List ℕ} {words' n : ℕ} {v : Option Stop} (h : k < budget)
       (a : Attempted x (machine_at s ram stack roll words) (machine_at s' ram' stack' roll' words') v n) where
-    pub observing_stops : counters₀ ≡ replicate bank_size 0 → (y : Stop) → v ≡ Stopped y → {o : Outcome}
+    pub observing_stops : counters₀ ≡ replicate bank_size 0 → (y : Stop) → v ≡ Some y → {o : Outcome}
         → o ≡ reported (ended y (machine_at s' ram' stack' roll' words' k c)) → Observed x budget m₀ log₀ o counters log.bytes
     observing_stops w y q e =
         ends_here w (e ∙ ap reported (loop_stops g.run h a y q))
@@ -115,7 +114,7 @@ module _ {x : Setting} {budget : ℕ} {m₀ : Machine} {counters₀ log₀ : Lis
         ∙ executed_stops x (budget - (k + 1)) here y (a.verdict (budget - (k + 1)) k c ∙ q))
 
     -- the address of the step is noted
-    pub observing_goes : n ≤ 255 → v ≡ Go → length ram' ≡ length ram → length stack' ≡ length stack → length roll' ≡ length roll
+    pub observing_goes : n ≤ 255 → v ≡ None → length ram' ≡ length ram → length stack' ≡ length stack → length roll' ≡ length roll
         → {counters' : List ℕ} {log' : Page} → Noted s.pc counters log counters' log' → length log'.bytes ≡ length log.bytes
         → ObservedLoop x budget m₀ counters₀ log₀ (machine_at s' ram' stack' roll' words' (k + 1) (c + n)) counters' log'
     observing_goes few q r d l w kept =

@@ -10,7 +10,7 @@ ghost use Rattle.model.specs.Step.{setting, machine_at};
 ghost use Rattle.observation.specs.internal.Observed.{Noted, Observed};
 
 use machine::{ended, last_stop};
-use model::{Report, State, Stop, Verdict};
+use model::{Report, State, Stop};
 use pages::put;
 use states::to_registers;
 use stepping::step;
@@ -71,7 +71,7 @@ pub fn observe(
         written = result.words;
         let verdict = result.verdict;
         match verdict {
-            Verdict::Go => {
+            None => {
                 noted = note(counters, log, noted, pc);
                 steps = steps + 1;
                 cycles = cycles + result.cycles;
@@ -80,7 +80,7 @@ pub fn observe(
                     return ended(Stop::Halted, steps, cycles, written, reached);
                 }
             }
-            Verdict::Stopped(stop) => {
+            Some(stop) => {
                 let reached = to_registers(s, regs);
                 return ended(stop, steps, cycles, written, reached);
             }

@@ -6,6 +6,7 @@ use mathlib.Core.Path.{◌≡◌, refl, sym}
 use mathlib.Core.List.{List, [], ◌∷◌, ◌++◌}
 use mathlib.Core.Bool.{Bool, true}
 use lib.ListN.{length}
+use Rattle.std.specs.Prelude.{Some, None}
 use Rattle.slices.specs.Lists.{Bytes}
 use Rattle.isa.specs.declared.Instr.{Instr}
 use Rattle.model.specs.Run.{tests_in, verdict_of, verdict_at, Ended, ended, run_of, trace_of, Outcome, Call, refusal_of, refused_of}
@@ -14,7 +15,6 @@ use Rattle.model.specs.Step.{Setting, Core, Machine, machine_at, next_instr, ste
 use Rattle.model.specs.declared.Refusal.{Refusal}
 use Rattle.model.specs.declared.Stop.{Stop}
 use Rattle.model.specs.declared.Stop.TheVariants.{Halted, Unsettled}
-use Rattle.model.specs.declared.Verdict.TheVariants.{Go, Stopped}
 use Rattle.slices.proofs.Bools.{by_test}
 use Rattle.model.proofs.Promises.{by_precheck}
 use Rattle.model.proofs.Runs.{by_verdict, none_left, run_stops, run_goes}
@@ -31,7 +31,7 @@ use Rattle.rules.proofs.Invariant.{setting_of, Running, Safe, running, done, ste
 
 -- ---- verdicts
 
-pub halted_stops : (i : Instr) (n : ℕ) (k : Core) → k.state.halted ≡ true → verdict_of i n k ≡ Stopped Halted
+pub halted_stops : (i : Instr) (n : ℕ) (k : Core) → k.state.halted ≡ true → verdict_of i n k ≡ Some Halted
 unfolding verdict_of
 halted_stops i n k e = rw e
 
@@ -73,14 +73,14 @@ rest w = machine_at w.state w.ram w.stack [] 0 0 0
 module _ (L : Listing) (A : Admitted L) (bytes : Bytes L.list) where
   -- ---- a run
 
-  pub verdict_settled : {row : List Entry} {m : Machine} → Safe L row m → (keys : List ℕ) (n : ℕ) → verdict_at (setting_of L keys) n m ≡ Stopped Unsettled → ⊥
+  pub verdict_settled : {row : List Entry} {m : Machine} → Safe L row m → (keys : List ℕ) (n : ℕ) → verdict_at (setting_of L keys) n m ≡ Some Unsettled → ⊥
   verdict_settled {m = m} (running l) keys n e =
       never_unsettled (next_instr (setting_of L keys) m) n m.core
       (by_test (tests_in (class_at L m.core.state.pc)) (λ q. rw (q, l.v_settled ((A.rules _ l.at_described).v_marked q))) (λ q. rw q)) e
   verdict_settled {m = m} (done h k) keys n e = let z : ◌≡◌ {A = ℕ} 0 1 = cc (halted_stops (next_instr (setting_of L keys) m) n m.core h) in omega arith
 
   -- a machine that goes on is running
-  pub goes_running : {row : List Entry} {m : Machine} → Safe L row m → (keys : List ℕ) (n : ℕ) → verdict_at (setting_of L keys) n m ≡ Go → Running L row m
+  pub goes_running : {row : List Entry} {m : Machine} → Safe L row m → (keys : List ℕ) (n : ℕ) → verdict_at (setting_of L keys) n m ≡ None → Running L row m
   goes_running (running l) keys n e = l
   goes_running {m = m} (done h k) keys n e = absurd (let z : ◌≡◌ {A = ℕ} 0 1 = cc (halted_stops (next_instr (setting_of L keys) m) n m.core h) in omega arith)
 

@@ -11,7 +11,6 @@ use Rattle.slices.proofs.Checks.{all_hold, first_violation}
 use Rattle.model.specs.Run.{reported, verdict_at, run_of}
 use Rattle.model.specs.Step.{machine_at, step_of}
 use Rattle.model.specs.declared.Stop.{Stop}
-use Rattle.model.specs.declared.Verdict.TheVariants.{Go, Stopped}
 use Rattle.model.proofs.Kept.{step_counts}
 use Rattle.model.proofs.Promises.{checks_pass, passed_call}
 use Rattle.model.proofs.Runs.{by_verdict, run_stops, run_goes, some_left}
@@ -109,7 +108,7 @@ places_kept c w =
 
 -- ---- turns one after another
 
-going_on : (s : Seat) (n : ℕ) → verdict_at s.setting 1 (machine_in s 0 0) ≡ Go → 0 < n → 0 < (alone_of s n).machine.core.steps
+going_on : (s : Seat) (n : ℕ) → verdict_at s.setting 1 (machine_in s 0 0) ≡ None → 0 < n → 0 < (alone_of s n).machine.core.steps
 unfolding alone_of
 going_on s zero e h = absurd (omega arith)
 going_on s (suc n) e h =
@@ -120,7 +119,7 @@ going_on s (suc n) e h =
     let k = step_counts x m in
     rw g (omega arith)
 
-stays : (s : Seat) (y : Stop) (n : ℕ) → verdict_at s.setting 1 (machine_in s 0 0) ≡ Stopped y → (alone_of s n).machine ≡ machine_in s 0 0
+stays : (s : Seat) (y : Stop) (n : ℕ) → verdict_at s.setting 1 (machine_in s 0 0) ≡ Some y → (alone_of s n).machine ≡ machine_in s 0 0
 unfolding alone_of
 stays s y zero e = alone_none s
 stays s y (suc n) e = rw (run_stops s.setting (suc n) (machine_in s 0 0) y (some_left s.setting n 0 (machine_in s 0 0) ∙ e))

@@ -6,8 +6,6 @@ use Rattle.model.specs.Run.{verdict_at}
 use Rattle.model.specs.State.{start_state}
 use Rattle.model.specs.declared.State.{State}
 use Rattle.model.specs.declared.Stop.{Stop}
-use Rattle.model.specs.declared.Verdict.{Verdict}
-use Rattle.model.specs.declared.Verdict.TheVariants.{Go, Stopped}
 use Rattle.seats.specs.Room.{Room, max_seats, bank_at, begin_of, length_at, Seat, seat_of, with_seat, machine_in, alone_of, seat_at}
 use Rattle.seats.specs.declared.SeatTurn.{SeatTurn}
 use Rattle.seats.specs.declared.TurnRefusal.{TurnRefusal}
@@ -111,9 +109,9 @@ turn_checks n slice w = checks_of (turn_causes n slice w)
 
 -- ---- the seat that runs
 
-abbrev pub is_go : Verdict → Bool
-is_go Go = true
-is_go (Stopped y) = false
+abbrev pub is_go : Option Stop → Bool
+is_go None = true
+is_go (Some y) = false
 
 -- whether no "stop other than spent prevents" a seat's next step: with a budget of 1 spent does not
 unfoldable pub can_go : Seat → Bool

@@ -7,6 +7,7 @@ use Prim.Native.Nat.{ℕ, suc, ◌+◌}
 use native.Mathlib.Nat.{zero-add, add-zero}
 use lib.Dec.{leb}
 use lib.ListN.{length, get_or}
+use Rattle.std.specs.Prelude.{Option, Some, None}
 use Rattle.alu.specs.Alu.{is_settled}
 use Rattle.isa.specs.Facts.{writes_roll}
 use Rattle.isa.specs.Table.{cycles_of}
@@ -17,8 +18,6 @@ use Rattle.model.specs.Step.{Setting, setting, Machine, machine_at, instr_at, fe
 use Rattle.model.specs.declared.State.{State}
 use Rattle.model.specs.declared.Stop.{Stop}
 use Rattle.model.specs.declared.Stop.TheVariants.{Halted}
-use Rattle.model.specs.declared.Verdict.{Verdict}
-use Rattle.model.specs.declared.Verdict.TheVariants.{Go, Stopped}
 use Rattle.model.proofs.Attempt.{attempt_verdict, attempt_made, attempt_prevented}
 use Rattle.model.proofs.Counts.{recounted, verdict_recounted, step_recounted}
 use Rattle.model.proofs.Runs.{some_left}
@@ -36,7 +35,7 @@ module _ (ops args keys : List ℕ) (s : State) (ram stack roll : List ℕ) (wor
   m = machine_at s ram stack roll words 0 0
 
   -- a machine that is halted
-  pub halted_prevents : s.halted ≡ true → attempt (Stopped Halted) 0 m ≡ attempt_of x m
+  pub halted_prevents : s.halted ≡ true → attempt (Some Halted) 0 m ≡ attempt_of x m
   unfolding attempt_of verdict_of
   halted_prevents h = rw h
 
@@ -66,16 +65,16 @@ module _ (ops args keys : List ℕ) (s : State) (ram stack roll : List ℕ) (wor
 
     pub step_made : (n : ℕ) (s' : State) (ram' stack' roll' : List ℕ) (words' : ℕ) → n ≡ e.cycles → unsettled ≡ false → full ≡ false
         → applied_of (plan_by (with_registers e.state regs) b) n m ≡ machine_at s' ram' stack' roll' words' (0 + 1) (0 + n)
-        → attempt Go n (machine_at s' ram' stack' roll' words' 1 n) ≡ attempt_of x m
+        → attempt None n (machine_at s' ram' stack' roll' words' 1 n) ≡ attempt_of x m
     unfolding attempt_of
     step_made n s' ram' stack' roll' words' q u f made =
-        let v : verdict_at x 1 m ≡ Go = verdict_by ∙ rw (u, f) in
+        let v : verdict_at x 1 m ≡ None = verdict_by ∙ rw (u, f) in
         let c : n ≡ cycles_of (instr_at x.program s.pc) = q ∙ ap (λ (t : Behavior). t.cycles) j in
         let k : machine_at s' ram' stack' roll' words' 1 n ≡ step_of x m =
         sym (rw (zero-add n) at made) ∙ rw q (sym step_by) in
         rw (v, ← k, ← c)
 
-    pub step_prevented : (y : Stop) → first_stop false false unsettled full ≡ Stopped y → attempt (Stopped y) 0 m ≡ attempt_of x m
+    pub step_prevented : (y : Stop) → first_stop false false unsettled full ≡ Some y → attempt (Some y) 0 m ≡ attempt_of x m
     unfolding attempt_of
     step_prevented y v = rw (verdict_by ∙ v)
 
@@ -83,12 +82,12 @@ module _ (ops args keys : List ℕ) (s : State) (ram stack roll : List ℕ) (wor
 
 -- the attempt from m to m', both by the steps and cycles counted: its verdict while some budget is left; the step, if it is made; nothing,
 -- if not
-pub record Attempted (x : Setting) (m m' : ℕ → ℕ → Machine) (v : Verdict) (n : ℕ) : Type 0 where
+pub record Attempted (x : Setting) (m m' : ℕ → ℕ → Machine) (v : Option Stop) (n : ℕ) : Type 0 where
   pub verdict : (left k c : ℕ) → verdict_at x (suc left) (m k c) ≡ v
-  pub goes : v ≡ Go → (k c : ℕ) → step_of x (m k c) ≡ m' (k + 1) (c + n)
-  pub stays : (y : Stop) → v ≡ Stopped y → (k c : ℕ) → m' k c ≡ m k c
+  pub goes : v ≡ None → (k c : ℕ) → step_of x (m k c) ≡ m' (k + 1) (c + n)
+  pub stays : (y : Stop) → v ≡ Some y → (k c : ℕ) → m' k c ≡ m k c
 
-module _ (x : Setting) (s s' : State) (ram stack roll ram' stack' roll' : List ℕ) (words words' : ℕ) (v : Verdict) (n : ℕ) where
+module _ (x : Setting) (s s' : State) (ram stack roll ram' stack' roll' : List ℕ) (words words' : ℕ) (v : Option Stop) (n : ℕ) where
   abbrev before : ℕ → ℕ → Machine
   before k c = machine_at s ram stack roll words k c
 
@@ -106,10 +105,10 @@ module _ (x : Setting) (s s' : State) (ram stack roll ram' stack' roll' : List �
     verdict_is : v ≡ verdict_at x 1 (before 0 0)
     verdict_is = attempt_verdict x (before 0 0) (after (steps_by v) n) v n a
 
-    made : v ≡ Go → after 1 n ≡ step_of x (before 0 0)
+    made : v ≡ None → after 1 n ≡ step_of x (before 0 0)
     made q = let e = (attempt_made x (before 0 0) (after (steps_by v) n) v n a q).0 in rw q at e
 
-    prevented : (y : Stop) → v ≡ Stopped y → after 0 n ≡ before 0 0
+    prevented : (y : Stop) → v ≡ Some y → after 0 n ≡ before 0 0
     prevented y q = let e = (attempt_prevented x (before 0 0) (after (steps_by v) n) v n a y q).0 in rw q at e
 
     pub attempted : Attempted x before after v n

@@ -1,21 +1,21 @@
 // A step, unless something stops it.
 #![tactic(auto)]
 
-ghost use Rattle.std.specs.Prelude.{◌≡◌, ◌+◌, ◌<◌, ◌≤◌, length, set};
+ghost use Rattle.std.specs.Prelude.{◌≡◌, ◌+◌, ◌<◌, ◌≤◌, length, set, Some, None};
 ghost use Rattle.effects.specs.internal.Effects.{operated};
 ghost use Rattle.model.specs.Run.{attempt, attempt_of, steps_by};
 ghost use Rattle.model.specs.State.{with_registers};
 ghost use Rattle.model.specs.Step.{setting, machine_at};
 
 use effects::Action;
-use model::{State, Stop, Verdict};
+use model::{State, Stop};
 use states::registers::write;
 
-// A step, or the stop that prevents it: the verdict, the cycles, and the roll words and the state
-// afterwards, but for its registers.
+// A step, or the stop that prevents it: that stop, if there is one, the cycles, and the roll words and
+// the state afterwards, but for its registers.
 #[derive(Clone, Copy)]
 pub struct StepResult {
-    pub verdict: Verdict,
+    pub verdict: Option<Stop>,
     pub cycles: u32,
     pub words: usize,
     pub state: State,
@@ -30,10 +30,10 @@ fn widen(n: u8) -> u32
 
 // A step that is made.
 fn made(cycles: u32, words: usize, state: State) -> StepResult
-    ensures { result ≡ record { verdict = Verdict.Go; cycles = cycles; words = words; state = state } }
+    ensures { result ≡ record { verdict = None; cycles = cycles; words = words; state = state } }
 {
     StepResult {
-        verdict: Verdict::Go,
+        verdict: None,
         cycles: cycles,
         words: words,
         state: state,
@@ -42,10 +42,10 @@ fn made(cycles: u32, words: usize, state: State) -> StepResult
 
 // A step that is prevented: nothing is done, and no cycle counted.
 fn prevented(stop: Stop, words: usize, state: State) -> StepResult
-    ensures { result ≡ record { verdict = Verdict.Stopped stop; cycles = 0; words = words; state = state } }
+    ensures { result ≡ record { verdict = Some stop; cycles = 0; words = words; state = state } }
 {
     StepResult {
-        verdict: Verdict::Stopped(stop),
+        verdict: Some(stop),
         cycles: 0,
         words: words,
         state: state,

@@ -22,18 +22,18 @@ returns-then-start c = rw c.ended.ensures (ap reported (sym (halted_stays _ _ _ 
 pub returns-then-s : goal.returns-then-s
 returns-then-s c =
     let a = attempted _ _ _ _ _ _ _ _ _ _ _ _ _ c.step-result.ensures.0 in
-    let g = loop_goes c.loop-steps.invariant c.loop-steps-test.true a c.step-result.ensures.1 c.in-Go.is c.step-result.auto.ram c.step-result.auto.stack c.step-result.auto.roll in
+    let g = loop_goes c.loop-steps.invariant c.loop-steps-test.true a c.step-result.ensures.1 c.in-None.is c.step-result.auto.ram c.step-result.auto.stack c.step-result.auto.roll in
     rw (c.ended-then-s.ensures, c.to_registers-reached.ensures) (ap reported (loop_halts g c.if-s.true))
 
 pub loop-steps-preserved : goal.loop-steps-preserved
 loop-steps-preserved c =
     let a = attempted _ _ _ _ _ _ _ _ _ _ _ _ _ c.step-result.ensures.0 in
-    loop_goes c.loop-steps.invariant c.loop-steps-test.true a c.step-result.ensures.1 c.in-Go.is c.step-result.auto.ram c.step-result.auto.stack c.step-result.auto.roll
+    loop_goes c.loop-steps.invariant c.loop-steps-test.true a c.step-result.ensures.1 c.in-None.is c.step-result.auto.ram c.step-result.auto.stack c.step-result.auto.roll
 
-pub returns-in-Stopped : goal.returns-in-Stopped
-returns-in-Stopped c =
+pub returns-in-Some : goal.returns-in-Some
+returns-in-Some c =
     let a = attempted _ _ _ _ _ _ _ _ _ _ _ _ _ c.step-result.ensures.0 in
-    rw (c.ended-in-Stopped.ensures, c.to_registers-reached-in-Stopped.ensures) (ap reported (loop_stops c.loop-steps.invariant c.loop-steps-test.true a _ c.in-Stopped.is))
+    rw (c.ended-in-Some.ensures, c.to_registers-reached-in-Some.ensures) (ap reported (loop_stops c.loop-steps.invariant c.loop-steps-test.true a _ c.in-Some.is))
 
 pub returns : goal.returns
 returns c =

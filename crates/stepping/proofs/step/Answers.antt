@@ -7,6 +7,7 @@ use native.Mathlib.Omega.{arith}
 use lib.Dec.{leb}
 use lib.ListN.{length, get_or}
 use borrow.Author.Tests.{lt-leb, le-leb}
+use Rattle.std.specs.Prelude.{Some, None}
 use Rattle.alu.specs.Alu.{is_settled}
 use Rattle.effects.specs.declared.Action.{Action}
 use Rattle.effects.specs.declared.Action.TheVariants.{Nothing, TestV, Register, Data, Stack, Swap, Roll, Compute}
@@ -19,7 +20,6 @@ use Rattle.model.specs.Step.{setting, machine_at, instr_at, fetched, applied_of}
 use Rattle.model.specs.declared.State.{State}
 use Rattle.model.specs.declared.Stop.{Stop}
 use Rattle.model.specs.declared.Stop.TheVariants.{Unsettled, Full}
-use Rattle.model.specs.declared.Verdict.TheVariants.{Go, Stopped}
 use Rattle.stepping.proofs.Attempts.{halted_prevents, step_made, step_prevented}
 use Rattle.stepping.proofs.step.Goals as goal
 use Rattle.stepping.proofs.step.Goals.{After-widen-n}
@@ -43,7 +43,7 @@ made_at : (c : After-widen-n) (b : Action) → c.execute-e.result.action ≡ b �
     let n = c.widen-n.result in
     tests_by b && not (is_settled a.s.flags.v) ≡ false → sends_by b && leb (length a.roll.now) a.words ≡ false
     → applied_of (plan_by (with_registers c.execute-e.result.state a.regs.now) b) n (machine_at (state c) a.ram.now a.stack.now a.roll.now a.words 0 0) ≡ machine_at s' ram' stack' roll' words' (0 + 1) (0 + n)
-    → (attempt Go n (machine_at s' ram' stack' roll' words' 1 n) ≡ attempt_of (setting a.opcodes.now a.arguments.now a.keys.now) (machine_at (state c) a.ram.now a.stack.now a.roll.now a.words 0 0)) × (n ≤ 255)
+    → (attempt None n (machine_at s' ram' stack' roll' words' 1 n) ≡ attempt_of (setting a.opcodes.now a.arguments.now a.keys.now) (machine_at (state c) a.ram.now a.stack.now a.roll.now a.words 0 0)) × (n ≤ 255)
 made_at c b q s' ram' stack' roll' words' u f m =
     let a = c.args in (
       step_made a.opcodes.now a.arguments.now a.keys.now (state c) a.ram.now a.stack.now a.roll.now a.words a.regs.now c.execute-e.result b q c.if-s.false (behavior_is c) c.widen-n.result s' ram' stack' roll' words' c.widen-n.ensures.0 u f m,
@@ -52,8 +52,8 @@ made_at c b q s' ram' stack' roll' words' u f m =
 
 prevented_at : (c : After-widen-n) (b : Action) → c.execute-e.result.action ≡ b → (y : Stop) →
     let a = c.args in
-    first_stop false false (tests_by b && not (is_settled a.s.flags.v)) (sends_by b && leb (length a.roll.now) a.words) ≡ Stopped y
-    → attempt (Stopped y) 0 (machine_at (state c) a.ram.now a.stack.now a.roll.now a.words 0 0) ≡ attempt_of (setting a.opcodes.now a.arguments.now a.keys.now) (machine_at (state c) a.ram.now a.stack.now a.roll.now a.words 0 0)
+    first_stop false false (tests_by b && not (is_settled a.s.flags.v)) (sends_by b && leb (length a.roll.now) a.words) ≡ Some y
+    → attempt (Some y) 0 (machine_at (state c) a.ram.now a.stack.now a.roll.now a.words 0 0) ≡ attempt_of (setting a.opcodes.now a.arguments.now a.keys.now) (machine_at (state c) a.ram.now a.stack.now a.roll.now a.words 0 0)
 prevented_at c b q y v =
     let a = c.args in
     step_prevented a.opcodes.now a.arguments.now a.keys.now (state c) a.ram.now a.stack.now a.roll.now a.words a.regs.now c.execute-e.result b q c.if-s.false (behavior_is c) y v
