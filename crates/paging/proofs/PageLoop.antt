@@ -55,10 +55,12 @@ module _ (p : Program) (counters : List ℕ) where
     pub page_ends : lines < bank_size → next last ≡ none → PageWritten p counters out₀ lines q.bytes
     page_ends h e = done (ap (λ (n : ℕ). rest n last) (some h) ∙ list_ends (busier_order counters) (is_executed counters) (bank_size - (lines + 1)) last e)
 
-    pub page_full : bank_size ≤ lines → PageWritten p counters out₀ lines q.bytes
+    pub page_full : bank_size ≤ lines → PageWritten p counters out₀ bank_size q.bytes
     page_full h =
         let z : bank_size - lines ≡ 0 = omega arith in
-        done (ap (λ (n : ℕ). rest n last) z ∙ list_none (busier_order counters) (is_executed counters) last)
+        let e : lines ≡ bank_size = omega (arith, g.within) in
+        subst (λ (n : ℕ). PageWritten p counters out₀ n q.bytes) e
+        (done (ap (λ (n : ℕ). rest n last) z ∙ list_none (busier_order counters) (is_executed counters) last))
 
     pub page_goes : {a : ℕ} {r : Page} → lines < bank_size → a ≡ next last → (a ≡ none → ⊥) → length r.bytes ≡ length q.bytes
         → r ≡ write_of (line_of p counters a) q → Narrow p a → PageLoop out₀ (lines + 1) a r

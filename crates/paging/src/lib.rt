@@ -92,17 +92,14 @@ pub fn write_page(opcodes: &[u8], arguments: &[u8], counters: &[u32], out: &mut 
     requires { length counters.now ≡ bank_size }
     ensures { PageWritten (program opcodes.now arguments.now) counters.now out.old result out.new }
 {
-    let mut lines: usize = 0;
     let mut at: usize = 0;
-    let mut last = ADDRESSES;
-    while lines < ADDRESSES {
-        let next = next_after(counters, last);
-        if next == ADDRESSES {
+    let mut last = None;
+    for lines in 0..ADDRESSES {
+        let Some(next) = next_after(counters, last) else {
             return lines;
-        }
+        };
         at = write_line(out, at, opcodes, arguments, counters, next as u8);
-        last = next;
-        lines += 1;
+        last = Some(next);
     }
-    lines
+    ADDRESSES
 }

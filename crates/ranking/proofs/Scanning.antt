@@ -8,11 +8,13 @@ use native.Mathlib.Numerals.{add-one}
 use native.Mathlib.Omega.{arith}
 use lib.Dec.{eqb}
 use lib.ListN.{length, get_or-eq_default}
-use borrow.Author.Tests.{ltb-true, lt-ltb, eqb-true}
+use borrow.Author.Tests.{ltb-true, lt-ltb, ne_eqb, eqb-true}
+use Rattle.std.specs.Prelude.{Option, Some, None}
+use Rattle.std.specs.Option.{is_some, unwrap_or}
 use Rattle.slices.specs.Sizes.{bank_size}
 use Rattle.slices.proofs.Bools.{by_test}
 use Rattle.ranking.specs.Busier.{count_at, is_executed, precedes, counted, busier}
-use Rattle.ranking.specs.internal.Selection.{none, leads, first_below, takes_lead, leader_of}
+use Rattle.ranking.specs.internal.Selection.{none, known, leads, first_below, takes_lead, leader_of}
 use Rattle.ranking.specs.declared.AddressCount.{AddressCount}
 
 pub next_leads : (last best next : AddressCount) → takes_lead last best next ≡ true → next ≡ leader_of last best next
@@ -79,3 +81,26 @@ module _ (counters : List ℕ) (whole : length counters ≡ bank_size) (last : �
   lead_ends {a} g h =
       let e : a ≡ bank_size = omega (arith, g.within) in
       g.first ∙ ap (first_below (busier counters) (is_executed counters) last) e
+
+-- ---- an address that may be none
+
+pub none_known : (n : ℕ) → n ≡ none → None ≡ known n
+none_known n e = rw e
+
+pub some_known : {a : ℕ} (n : ℕ) → a ≡ n → (a ≡ none → ⊥) → Some a ≡ known n
+some_known n e some = rw (ne_eqb n none (λ z. some (e ∙ z)), e)
+
+in_known : (n : ℕ) → unwrap_or (known n) none ≡ n
+in_known n = by_test (eqb n none) (λ e. rw (eqb-true n none e)) (λ e. rw e)
+
+no : true ≡ false → ⊥
+no q = let z : ◌≡◌ {A = ℕ} 0 1 = cc in omega arith
+
+module _ {r : Option ℕ} (n : ℕ) (e : r ≡ known n) where
+  pub next_told : {a : ℕ} → r ≡ Some a → (a ≡ n) × (a ≡ none → ⊥)
+  next_told {a} q =
+      let i : a ≡ n = ap (λ (x : Option ℕ). unwrap_or x none) (sym q ∙ e) ∙ in_known n in
+      (i, λ z. no (ap is_some (sym q ∙ e) ∙ ap (λ (m : ℕ). is_some (known m)) (sym i ∙ z)))
+
+  pub none_told : ((a : ℕ) → r ≡ Some a → ⊥) → n ≡ none
+  none_told f = by_test (eqb n none) (λ t. eqb-true n none t) (λ t. absurd (f n (e ∙ rw t)))

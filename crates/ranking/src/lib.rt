@@ -2,11 +2,13 @@
 #![tactic(auto)]
 
 ghost use Rattle.std.specs.Prelude.{◌≡◌, length, get_or};
+ghost use Rattle.std.specs.Option.{unwrap_or};
 ghost use Rattle.slices.specs.Sizes.{bank_size};
 ghost use Rattle.ranking.specs.Busier as order;
-ghost use Rattle.ranking.specs.internal.Selection.{first_below, leader_of};
+ghost use Rattle.ranking.specs.internal.Selection.{none, first_below, leader_of, known};
 
-// The addresses that are ranked; as an address it stands for none.
+// The addresses that are ranked. In the scan it stands for no address: with the count 0 every executed one
+// precedes it, so that no turn has to ask whether there is a leader yet.
 pub const ADDRESSES: usize = 256;
 
 // An address, and how often it executed.
@@ -43,28 +45,29 @@ fn leader(last: AddressCount, best: AddressCount, next: AddressCount) -> Address
     best
 }
 
-// The first executed address behind `last`, or of all where `last` is none; none where there is no
-// other.
-pub fn next_after(counters: &[u32], last: usize) -> usize
+// The first executed address behind `last`, or of all where there is no `last`.
+pub fn next_after(counters: &[u32], last: Option<usize>) -> Option<usize>
     requires { length counters.now ≡ bank_size }
-    ensures { result ≡ first_below (order.busier counters.now) (order.is_executed counters.now) last bank_size }
+    ensures { result ≡ known (first_below (order.busier counters.now) (order.is_executed counters.now) (unwrap_or last none) bank_size) }
 {
+    let address = last.unwrap_or(ADDRESSES);
     let from = AddressCount {
-        address: last,
-        count: count_at(counters, last),
+        address,
+        count: count_at(counters, address),
     };
     let mut best = AddressCount {
         address: ADDRESSES,
         count: 0,
     };
-    let mut a: usize = 0;
-    while a < ADDRESSES {
+    for (a, count) in counters.iter().enumerate() {
         let next = AddressCount {
             address: a,
-            count: counters[a],
+            count: *count,
         };
         best = leader(from, best, next);
-        a += 1;
     }
-    best.address
+    if best.address == ADDRESSES {
+        return None;
+    }
+    Some(best.address)
 }

@@ -3,7 +3,7 @@
 
 ghost use Rattle.std.specs.Prelude.{◌≡◌, length, ◌≤◌};
 ghost use Rattle.spelling.specs.internal.Rows.{table_bytes};
-ghost use Rattle.reading.specs.Reading.{is_place, failed, took_register, took_number, took_name, took_of, literal_of, byte_of, read_of, matched_of};
+ghost use Rattle.reading.specs.Reading.{is_place, failed, scanned, took_register, took_number, took_name, took_of, literal_of, byte_of, read_of, matched_of};
 ghost use Rattle.reading.specs.internal.Rows.{begins_of};
 
 use spelling::{Operand, Places};
@@ -27,10 +27,16 @@ pub struct Fit {
 fn fail(s: Scan) -> Scan
     ensures { result ≡ failed s }
 {
-    let places = s.places;
+    Scan { ok: false, ..s }
+}
+
+// A scan that goes on at a place.
+fn scanned(at: usize, places: Places) -> Scan
+    ensures { result ≡ scanned at places }
+{
     Scan {
-        ok: false,
-        at: s.at,
+        ok: true,
+        at,
         places,
     }
 }
@@ -39,58 +45,33 @@ fn fail(s: Scan) -> Scan
 fn take_register(c: u8, r: u8, i: usize, s: Scan) -> Scan
     ensures { result ≡ took_register c r i s }
 {
-    let mut places = s.places;
-    if c == b'X' {
-        places.d = r;
-        return Scan {
-            ok: true,
-            at: i,
-            places,
-        };
+    let places = s.places;
+    match c {
+        b'X' => scanned(i, Places { d: r, ..places }),
+        b'Y' => scanned(i, Places { a: r, ..places }),
+        b'Z' => scanned(i, Places { b: r, ..places }),
+        _ => fail(s),
     }
-    if c == b'Y' {
-        places.a = r;
-        return Scan {
-            ok: true,
-            at: i,
-            places,
-        };
-    }
-    if c == b'Z' {
-        places.b = r;
-        return Scan {
-            ok: true,
-            at: i,
-            places,
-        };
-    }
-    fail(s)
 }
 
 // A number v, up to i, at the place c of a spelling.
 fn take_number(c: u8, v: u8, i: usize, s: Scan) -> Scan
     ensures { result ≡ took_number c v i s }
 {
-    let mut places = s.places;
-    if c == b'#' {
-        places.imm = v;
-        return Scan {
-            ok: true,
-            at: i,
-            places,
-        };
+    let places = s.places;
+    match c {
+        b'#' => scanned(i, Places { imm: v, ..places }),
+        b'@' => scanned(
+            i,
+            Places {
+                addr: v,
+                from: 0,
+                size: 0,
+                ..places
+            },
+        ),
+        _ => fail(s),
     }
-    if c == b'@' {
-        places.addr = v;
-        places.from = 0;
-        places.size = 0;
-        return Scan {
-            ok: true,
-            at: i,
-            places,
-        };
-    }
-    fail(s)
 }
 
 // A name, up to i, at the place c of a spelling.
@@ -98,18 +79,19 @@ fn take_name(c: u8, i: usize, s: Scan) -> Scan
     requires { s.at ≤ i }
     ensures { result ≡ took_name c i s }
 {
-    let mut places = s.places;
-    if c == b'@' {
-        places.addr = 0;
-        places.from = s.at;
-        places.size = i - s.at;
-        return Scan {
-            ok: true,
-            at: i,
-            places,
-        };
+    if c != b'@' {
+        return fail(s);
     }
-    fail(s)
+    let places = s.places;
+    scanned(
+        i,
+        Places {
+            addr: 0,
+            from: s.at,
+            size: i - s.at,
+            ..places
+        },
+    )
 }
 
 // An operand, up to i, at the place c of a spelling.
@@ -141,12 +123,7 @@ fn literal(line: &[u8], c: u8, s: Scan) -> Scan
         return fail(s);
     }
     if line[at] == c {
-        let places = s.places;
-        return Scan {
-            ok: true,
-            at: at + 1,
-            places,
-        };
+        return scanned(at + 1, s.places);
     }
     fail(s)
 }
@@ -183,11 +160,7 @@ fn scan_row(table: &[u8], line: &[u8], start: usize, k: usize) -> Scan
         from: 0,
         size: 0,
     };
-    let mut s = Scan {
-        ok: true,
-        at: start,
-        places: empty,
-    };
+    let mut s = scanned(start, empty);
     for j in 0..spelling::ROW_WIDTH {
         let ok = s.ok;
         if !ok {

@@ -1,6 +1,6 @@
 -- The wanted addresses one behind another: each time the first of those behind the last one.
 -- Assumes nothing.
-use Rattle.std.specs.Prelude.{ℕ, zero, suc, Bool, cond, ◌&&◌, ◌||◌, List, [], ◌∷◌, eqb, ltb}
+use Rattle.std.specs.Prelude.{ℕ, zero, suc, Bool, cond, ◌&&◌, ◌||◌, List, [], ◌∷◌, eqb, ltb, Option, Some, None}
 use Rattle.slices.specs.Sizes.{bank_size}
 use Rattle.ranking.specs.Busier.{is_executed, precedes, busier}
 use Rattle.ranking.specs.declared.AddressCount.{AddressCount}
@@ -8,6 +8,10 @@ use Rattle.ranking.specs.declared.AddressCount.{AddressCount}
 -- what is no address stands for none
 abbrev pub none : ℕ
 none = bank_size
+
+-- as an answer
+abbrev pub known : ℕ → Option ℕ
+known a = cond (eqb a none) None (Some a)
 
 -- a wanted address behind `last`, or any where `last` is none
 abbrev pub follows : (ℕ → ℕ → Bool) → (ℕ → Bool) → ℕ → ℕ → Bool

@@ -8,7 +8,7 @@ returns-then-line-at c = simp (le-ltb _ _ c.if-line-at.true) c.fail.ensures
 
 pub returns-then-line-at-2 : goal.returns-then-line-at-2
 unfolding literal_of
-returns-then-line-at-2 c = simp (lt-ltb _ _ c.if-line-at.false, eq-eqb _ _ c.if-line-at-2.true)
+returns-then-line-at-2 c = simp (lt-ltb _ _ c.if-line-at.false, eq-eqb _ _ c.if-line-at-2.true) c.scanned.ensures
 
 pub returns : goal.returns
 unfolding literal_of
