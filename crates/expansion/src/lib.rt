@@ -24,15 +24,15 @@ fn table_form(k: usize, p: Places, to: u8) -> Instr
 {
     let number = number_in(p, to);
     if k < 16 {
-        return numbers::instruction(Fields(0, p.d, p.a, k as u8, p.b, number));
+        return Instr::from(Fields(0, p.d, p.a, k as u8, p.b, number));
     }
     if k == 16 {
-        return numbers::instruction(Fields(1, p.d, p.a, 0, p.b, number));
+        return Instr::from(Fields(1, p.d, p.a, 0, p.b, number));
     }
     if k < 33 {
-        return numbers::instruction(Fields(2, p.d, p.a, (k - 17) as u8, p.b, number));
+        return Instr::from(Fields(2, p.d, p.a, (k - 17) as u8, p.b, number));
     }
-    numbers::instruction(Fields((k - 30) as u8, p.d, p.a, 0, p.b, number))
+    Instr::from(Fields((k - 30) as u8, p.d, p.a, 0, p.b, number))
 }
 
 // The first form of a macro, by its place among the macros.

@@ -47,7 +47,7 @@ fn instruction(opcode: u8, argument: u8) -> Instr
     ensures { result ≡ decode_of opcode argument }
 {
     let forms = FORMS;
-    numbers::instruction(Fields(
+    Instr::from(Fields(
         forms[(opcode >> 2) as usize],
         low_pair(opcode >> 2),
         low_pair(opcode),

@@ -83,7 +83,7 @@ pub fn write_text(out: &mut [u8], at: usize, instr: Instr, table: &[u8]) -> usiz
     requires { table.now ≡ table_bytes }
     ensures { page out.new result ≡ write_of (text_of instr) (page out.old at) }
 {
-    let x = numbers::fields_of(instr);
+    let x = Fields::from(instr);
     write_filled(out, at, row(x.0, x.3), x, table)
 }
 

@@ -4,6 +4,7 @@
 ghost use Rattle.source.specs.Source.{PrintedAs, AssembledAs};
 
 use assembling::Assembled;
+use isa::Instr;
 use numbers::Fields;
 use printing::Printed;
 
@@ -11,7 +12,7 @@ use printing::Printed;
 pub fn cesca_print(fields: Fields) -> Printed
     ensures { PrintedAs fields result }
 {
-    printing::print(numbers::instruction(fields))
+    printing::print(Instr::from(fields))
 }
 
 // A text assembled into both banks, or the number and line of a refusal that leaves them as they were.

@@ -8,6 +8,6 @@ pub returns : goal.returns
 returns c =
     let d = c.decode.ensures in
     record {
-      table = c.fields_of.ensures ∙ ap fields_of d.table;
-      decodes = rw (c.fields_of.ensures, fields_inverse) d;
+      table = c.from.ensures ∙ ap fields_of d.table;
+      decodes = rw (c.from.ensures, fields_inverse) d;
     }

@@ -4,4 +4,4 @@ use Rattle.printing.proofs.write_text.Goals as goal
 
 pub returns : goal.returns
 unfolding text_of
-returns c = rw (← c.fields_of-x.ensures, ← c.row.ensures) c.write_filled.ensures
+returns c = rw (← c.from-x.ensures, ← c.row.ensures) c.write_filled.ensures

@@ -7,5 +7,5 @@ use Rattle.source.proofs.cesca_print.Goals as goal
 
 pub returns : goal.returns
 returns c =
-    let p = subst (λ (i : Instr). Prints i c.print.result) c.instruction.ensures c.print.ensures in
+    let p = subst (λ (i : Instr). Prints i c.print.result) c.from.ensures c.print.ensures in
     record { prints = p; reads_back = printed_back c.args.fields (search rules) p }
