@@ -13,6 +13,7 @@ use Rattle.rules.specs.Successors.{successor}
 use Rattle.rules.proofs.AdmittedRules.{entry_of}
 use Rattle.rules.proofs.Tests.{absurd_bool}
 use Rattle.addresses.specs.internal.Parts.{without_banks, class_checks, EntriesFit}
+use Rattle.sheets.specs.declared.Word.{Word}
 use Rattle.sheets.specs.internal.Tests.{bad_word}
 use Rattle.sheets.specs.internal.Words.{word_of}
 
@@ -81,11 +82,19 @@ module _ (L : Listing) (fit : EntriesFit L) (t : ℕ) where
       rw (e, and-true (eqb a 255), or-false bad, callee_named e, ne_eqb (routine L t) (routines L) (omega arith)))
       (λ e. rw (e, and-true (eqb a 255), callee_none e, eq-eqb (routines L) (routines L) refl))
 
-pub call : (s l : List ℕ) → EntriesFit (without_banks s l) → (a t r d : ℕ)
+-- the word w at the target names a routine with this entry
+abbrev pub entry_there : Word → (l : List ℕ) → (t : ℕ) → Bool
+entry_there w l t = ltb w.routine (length l / 2) && eqb (get_or l (2 * w.routine) 0) t
+
+-- the routine's need is less than the call asks
+abbrev pub need_below : Word → (l : List ℕ) → (r d : ℕ) → Bool
+need_below w l r d = ltb (get_or l (2 * r + 1) 0) (d + 1 + get_or l (2 * w.routine + 1) 0)
+
+pub call : {w : Word} (s l : List ℕ) → EntriesFit (without_banks s l) → (a t r d : ℕ) → w ≡ word_of s t
     → cond (eqb a 255) (13 + 256 * a)
-    (cond (not (ltb (word_of s t).routine (length l / 2) && eqb (get_or l (2 * (word_of s t).routine) 0) t)) (14 + 256 * a)
-    (cond (ltb (get_or l (2 * r + 1) 0) (d + 1 + get_or l (2 * (word_of s t).routine + 1) 0)) (15 + 256 * a)
+    (cond (not (entry_there w l t)) (14 + 256 * a)
+    (cond (need_below w l r d) (15 + 256 * a)
     (cond (bad_word (word_of s ((a + 1) % 256)) r d false) (16 + 256 * a) 0)))
     ≡ first_broken (class_checks (without_banks s l) a (class.Call t) r d false)
 unfolding word described marked routine depth routines entry need word_of
-call s l fit a t r d = call_answer (without_banks s l) fit t a r d
+call s l fit a t r d e = rw e (call_answer (without_banks s l) fit t a r d)

@@ -23,10 +23,8 @@ use Rattle.rules.proofs.SettlesMore.{remains}
 use Rattle.rules.proofs.Scanning.{first_append, scan_each, scan_clear}
 use Rattle.rules.proofs.ThirdDemand.{demand}
 use Rattle.admission.specs.Admission.{Admission}
-use Rattle.admission.specs.declared.scans.Stage.{Stage}
-use Rattle.admission.specs.declared.scans.Stage.TheVariants.{Blanks, Routines, Entries, Addresses}
 use Rattle.addresses.specs.internal.Parts.{EntriesFit}
-use Rattle.admission.specs.internal.Stages.{stage_checks, stage_places, StageReady, stage_of, sizes_of, start_of, scans_of, stages_of}
+use Rattle.admission.specs.internal.Stages.{Stage, Blanks, Routines, Entries, Addresses, stage_checks, stage_places, StageReady, stage_of, sizes_of, start_of, scans_of, stages_of}
 
 -- places are bytes
 pub few_places : (s : Stage) (L : Listing) → StageReady s L → stage_places s (routines L) ≤ bank_size

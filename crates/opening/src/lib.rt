@@ -14,7 +14,7 @@ use checking::judging::judge;
 use checking::reading::{Address, read_address, read_byte};
 use files::OpeningFault;
 use rules::MAX_LIST_SIZE;
-use sheets::buffers::buffer_sizes;
+use sheets::sizes::buffer_sizes;
 use slices::BANK_SIZE;
 
 // The address at a place and the place behind it, where there are more; else a blank one.
@@ -87,9 +87,8 @@ pub fn open_file(
     ensures { outcome (opened_as result) (listing opcodes.new arguments.new sheet.new list.new)
         ≡ opened_of file.now (listing opcodes.old arguments.old sheet.old list.old) }
 {
-    let fault = buffer_sizes(opcodes, arguments, sheet, list);
-    if fault != 0 {
-        return Err(OpeningFault::Length(fault));
+    if let Err(rule) = buffer_sizes(opcodes, arguments, sheet, list) {
+        return Err(OpeningFault::Length(u8::from(rule)));
     }
     let contents = judge(file)?;
     fill_addresses(

@@ -1,7 +1,6 @@
 // Words of the stack sheet, needs of the routine list, and the lengths of a listing's parts.
 #![tactic(auto)]
 
-pub mod buffers;
 pub mod grounds;
 pub mod sizes;
 

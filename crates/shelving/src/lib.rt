@@ -121,9 +121,8 @@ pub fn shelve(
 ) -> Result<usize, ShelvingFault>
     ensures { written (shelved_as result) out.new ≡ shelved_of (listing opcodes.now arguments.now sheet.now list.now) out.old }
 {
-    let fault = listing_sizes(opcodes, arguments, sheet, list);
-    if fault != 0 {
-        return Err(ShelvingFault::Length(fault));
+    if let Err(rule) = listing_sizes(opcodes, arguments, sheet, list) {
+        return Err(ShelvingFault::Length(u8::from(rule)));
     }
     if out.len() < FILE_ROOM {
         return Err(ShelvingFault::NoRoom);

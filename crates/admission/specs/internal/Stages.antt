@@ -1,14 +1,25 @@
 -- Admission as the code computes it: the stages one after another, each a scan. It is `admit_of` (proofs/Answer.antt).
 -- Assumes nothing.
-use Rattle.std.specs.Prelude.{ℕ, ◌≤◌, List, [], ◌∷◌}
+use Rattle.std.specs.Prelude.{ℕ, ◌≡◌, ◌<◌, ◌≤◌, List, [], ◌∷◌, Result}
 use Rattle.rules.specs.Grounds.{bad_banks, bad_sheet, bad_list, bad_blank, bad_routine, bad_start, bad_entry, address_checks}
 use Rattle.rules.specs.Sheet.{Listing, routines}
 use Rattle.rules.specs.internal.Scans.{or_else, scan_of}
+use Rattle.sheets.specs.declared.grounds.Ground.{Ground}
+use Rattle.sheets.specs.internal.Grounds.{answer_of}
 use Rattle.slices.specs.Checks.{Check, check, first_broken}
 use Rattle.slices.specs.Sizes.{bank_size}
-use Rattle.admission.specs.declared.scans.Stage.{Stage}
-use Rattle.admission.specs.declared.scans.Stage.TheVariants.{Blanks, Routines, Entries, Addresses}
 use Rattle.addresses.specs.internal.Parts.{EntriesFit}
+
+-- the rules that are judged at one place after another: 4, 5, 7, and 8 to 16
+pub data Stage : Type 0 where
+  Blanks : Stage
+  Routines : Stage
+  Entries : Stage
+  Addresses : Stage
+
+-- what judges n places by checks answers at each the first that is broken there
+abbrev pub Judges : (ℕ → Result Unit Ground → Type 0) → (ℕ → List Check) → ℕ → Type 0
+Judges post f n = (k : ℕ) (r : Result Unit Ground) → k < n → post k r → answer_of r ≡ first_broken (f k)
 
 -- the rules that a stage judges at a place
 abbrev pub stage_checks : Stage → Listing → ℕ → List Check

@@ -1,12 +1,9 @@
--- One loop for all stages: n is the number of the stage's places.
-use Prim.Native.Nat.{◌-◌}
+-- Whatever checks the judge answers by: the places below the counter passed.
+use Rattle.std.proofs.Common.{ℕ, List}
 use Rattle.rules.proofs.Scanning.{Scanning}
-use Rattle.rules.specs.Sheet.{listing}
-use Rattle.admission.specs.internal.Stages.{stage_checks}
+use Rattle.slices.specs.Checks.{Check}
+use Rattle.admission.specs.internal.Stages.{Judges}
 use Rattle.admission.proofs.scans.scan.Given as goal
 
-abbrev pub invariant-loop-i : goal.invariant-loop-i
-invariant-loop-i l = Scanning (stage_checks l.stage (listing l.opcodes l.arguments l.sheet l.list)) l.n l.i
-
-abbrev pub decreases-loop-i : goal.decreases-loop-i
-decreases-loop-i l = l.n - l.i
+abbrev pub invariant-loop-place : goal.invariant-loop-place
+invariant-loop-place g l = (f : ℕ → List Check) → Judges (goal.F-post g l.judge) f l.n → Scanning f l.n l.place
