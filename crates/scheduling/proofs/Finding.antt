@@ -1,23 +1,13 @@
 -- The search for the seat that runs: what the code looks at tells whether a seat can go on, and what is left of the search is the search.
 -- Assumes nothing.
-use mathlib.Core.Path.{◌≡◌, refl, ap, ◌∙◌}
+use mathlib.Core.Path.{◌≡◌, refl, ◌∙◌}
 use mathlib.Core.Bool.{Bool, true, false, not, ◌&&◌, ◌||◌}
-use mathlib.Core.List.{List, ◌++◌}
-use Prim.Native.Nat.{ℕ, zero, suc, ◌+◌, ◌-◌, ◌/◌, ◌%◌, ◌≤◌, ◌<◌}
+use mathlib.Core.List.{List}
+use Prim.Native.Nat.{ℕ, zero, suc, ◌-◌, ◌/◌, ◌%◌, ◌<◌}
 use native.Mathlib.Omega.{arith}
-use lib.Dec.{eqb, leb, ltb}
+use lib.Dec.{eqb, leb}
 use lib.ListN.{length, get_or, take, drop}
-use Rattle.std.specs.Iterator.Adapters.{chain_first, chain_second, chain_first_done, chain_second_done, chain_steps}
-use Rattle.std.specs.List.{find, range_with_len}
-use Rattle.std.specs.declared.iter.Chain.{Chain}
-use Rattle.std.specs.declared.ops.Range.{Range}
-use Rattle.std.proofs.iter.Yields.{nat_range_steps}
-use Rattle.std.proofs.lemmas.Iterator.{YieldsList, YieldsList-from_range}
-use Rattle.std.proofs.lemmas.Iterator.Consumers.{YieldsList-from_chain}
-use Rattle.std.proofs.Math.ListN.{get_or-append, length-append}
-use Rattle.std.proofs.Math.Seq.{get_or-append_right}
-use Rattle.std.proofs.lemmas.List.FromFn.{length-range_with_len, get_or-range_with_len}
-use borrow.Author.Tests.{eqb-true, eqb-false, ltb-true, ltb-false}
+use Rattle.std.specs.Prelude.{Some, None}
 use Rattle.slices.specs.Sizes.{bank_size}
 use Rattle.slices.proofs.Bools.{by_test}
 use Rattle.slices.proofs.Parts.{length_part}
@@ -33,7 +23,6 @@ use Rattle.seats.specs.Room.{Room, bank_at, begin_of, length_at, bank_of, share_
 use Rattle.seats.specs.Turn.{is_go, can_go, goes_in, seat_after, first_from}
 use Rattle.seats.specs.internal.Places.{Fitting}
 use Rattle.seats.proofs.TurnCases.{places, after_below}
-use Rattle.seats.proofs.FairTurns.{not_last, last}
 use Rattle.scheduling.specs.internal.Search.{is_overflow_jump, is_transfer, goes_at, goes_by}
 
 -- ---- what an opcode tells, whatever stands at the letters: one computed test of its upper six bits each
@@ -95,64 +84,25 @@ alike g h n e (suc k) i b =
     (λ q. rw (first_from, e i b ∙ q, q))
     (λ q. rw (first_from, e i b ∙ q, q) (alike g h n e k (seat_after n i) (after_below n i b)))
 
--- the seats are asked in order, from one on and then from the first to it
-abbrev pub asked : (n from : ℕ) → List ℕ
-asked n from = range_with_len from (n - from) ++ range_with_len 0 from
+-- where the search stands: at seat i, with so many seats left
+pub record Searching (goes : ℕ → Bool) (n from i left : ℕ) : Type 0 where
+  pub here : i < n
+  pub rest : first_from goes n i left ≡ first_from goes n from n
 
-pub in_order : (n from : ℕ) (s : Chain (Range ℕ) (Range ℕ)) → chain_first s ≡ record { start = from; end = n }
-    → chain_second s ≡ record { start = 0; end = from } → chain_first_done s ≡ false → chain_second_done s ≡ false
-    → YieldsList (chain_steps nat_range_steps nat_range_steps) (λ x. x) s (asked n from)
-in_order n from s f g d e =
-    YieldsList-from_chain (YieldsList-from_range from n (n - from) f refl) (YieldsList-from_range 0 from from g (omega arith)) d e
+module _ {goes : ℕ → Bool} {n from i left : ℕ} (s : Searching goes n from i left) where
+  pub search_goes : (next rest : ℕ) → next ≡ seat_after n i → left ≡ suc rest → goes i ≡ false → Searching goes n from next rest
+  unfolding first_from
+  search_goes next rest e h q =
+      let r : first_from goes n i (suc rest) ≡ first_from goes n from n = rw h at s.rest in
+      record { here = rw e (after_below n i s.here); rest = rw e (rw (first_from, q) at r) }
 
-pub round_below : (n from k x : ℕ) → from < n → k < length (asked n from) → x ≡ get_or (asked n from) k x → x < n
-round_below n from k x h l e =
-    let a = range_with_len from (n - from) in
-    let b = range_with_len 0 from in
-    let p : length a ≡ n - from = length-range_with_len from (n - from) in
-    let q : length b ≡ from = length-range_with_len 0 from in
-    let r : length (a ++ b) ≡ length a + length b = length-append a b in
-    by_test (ltb k (n - from))
-    (λ t.
-    let u : k < n - from = ltb-true k (n - from) t in
-    let v : k < length a = omega arith in
-    let z : x ≡ from + k = e ∙ get_or-append a b x k v ∙ get_or-range_with_len from (n - from) k x u in
-    omega arith)
-    (λ t.
-    let u : n - from ≤ k = ltb-false k (n - from) t in
-    let i : ℕ = k - length a in
-    let v : i < from = omega arith in
-    let z : x ≡ 0 + i = e ∙ get_or-append_right a b k x (omega arith) ∙ get_or-range_with_len 0 from i x v in
-    omega arith)
+  pub search_finds : 0 < left → goes i ≡ true → Some i ≡ first_from goes n from n
+  unfolding first_from
+  search_finds h q =
+      let e : left ≡ suc (left - 1) = omega arith in
+      let r : first_from goes n i (suc (left - 1)) ≡ first_from goes n from n = rw e at s.rest in
+      rw (first_from, q) at r
 
--- the seats in order, up to the last
-found_up : (goes : ℕ → Bool) (n m j : ℕ) → j + m ≤ n → find goes (range_with_len j m) ≡ first_from goes n j m
-unfolding first_from
-found_up goes n zero j h = refl
-found_up goes n (suc m) j h =
-    by_test (goes j)
-    (λ q. rw (first_from, q))
-    (λ q. rw (first_from, q) (by_test (eqb m 0) (λ z. rw (eqb-true m 0 z, first_from)) (λ z.
-    let p = eqb-false m 0 z in
-    let e : seat_after n j ≡ j + 1 = not_last n j (omega arith) in
-    rw e (found_up goes n m (j + 1) (omega arith)))))
-
--- k seats up to the last, and then m from the first on
-found_round : (goes : ℕ → Bool) (n m k i : ℕ) → m ≤ n → i + suc k ≡ n
-    → find goes (range_with_len i (suc k) ++ range_with_len 0 m) ≡ first_from goes n i (suc k + m)
-unfolding first_from
-found_round goes n m zero i g h =
-    let a : 1 + m ≡ suc m = omega arith in
-    let e : seat_after n i ≡ 0 = last n i h in
-    rw a (by_test (goes i) (λ q. rw (first_from, q)) (λ q. rw (first_from, q, e) (found_up goes n m 0 (omega arith))))
-found_round goes n m (suc k) i g h =
-    let a : suc (suc k) + m ≡ suc (suc k + m) = omega arith in
-    let e : seat_after n i ≡ i + 1 = not_last n i (omega arith) in
-    rw a (by_test (goes i) (λ q. rw (first_from, q)) (λ q. rw (first_from, q, e) (found_round goes n m k (i + 1) g (omega arith))))
-
-pub found_is : (goes : ℕ → Bool) (n from : ℕ) → from < n → find goes (asked n from) ≡ first_from goes n from n
-found_is goes n from h =
-    let k : ℕ = n - suc from in
-    let e : n - from ≡ suc k = omega arith in
-    let f : suc k + from ≡ n = omega arith in
-    rw e (found_round goes n from k from (omega arith) (omega arith) ∙ ap (first_from goes n from) f)
+  pub search_ends : left ≡ 0 → None ≡ first_from goes n from n
+  unfolding first_from
+  search_ends h = rw h at s.rest

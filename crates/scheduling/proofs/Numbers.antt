@@ -1,23 +1,22 @@
--- The seats as numbers: changing a place of the numbers changes that place of the states; and whether any of the seats fails a test.
+-- The seats as numbers: a place of the numbers is that place of the states, and changing one changes the other.
 -- Assumes nothing.
-use mathlib.Core.Path.{◌≡◌, refl, sym, ap, ◌∙◌}
+use mathlib.Core.Path.{◌≡◌, refl, ap}
 use mathlib.Core.Bool.{Bool, true, false, ◌||◌}
 use mathlib.Core.List.{List}
-use Prim.Native.Nat.{ℕ, zero, suc, ◌+◌}
-use native.Mathlib.Nat.{add-zero, zero-add}
-use native.Mathlib.Omega.{arith}
-use lib.ListN.{set}
-use Rattle.std.specs.List.{list_any, range_with_len}
-use Rattle.std.proofs.Math.Bool.{or-false, or_assoc}
+use Prim.Native.Nat.{ℕ, ◌+◌, ◌<◌}
+use native.Mathlib.Numerals.{add-one}
+use lib.Dec.{ltb}
+use lib.ListN.{length, get_or, set}
 use Rattle.slices.specs.Lists.{mapped}
-use Rattle.slices.proofs.Lookup.{mapped_set}
+use Rattle.slices.proofs.Lookup.{place_read, mapped_set}
 use Rattle.alu.specs.declared.Overflow.{Overflow}
 use Rattle.alu.specs.declared.Overflow.TheVariants.{Settled, Unsettled}
+use Rattle.model.specs.State.{start_state}
 use Rattle.model.specs.declared.State.{State}
 use Rattle.numbers.specs.Numbers.{overflow_number}
 use Rattle.run_numbers.specs.Runs.{overflow_of, state_of, state_numbers}
 use Rattle.run_numbers.specs.declared.StateNumbers.{StateNumbers}
-use Rattle.seats.specs.Turn.{any_of}
+use Rattle.seats.specs.Turn.{bad_position, any_of}
 
 -- ---- states
 
@@ -32,15 +31,13 @@ there_and_back s = rw (overflow_there s.flags.v)
 pub state_put : (l : List StateNumbers) (i : ℕ) (s : State) → mapped state_of (set l i (state_numbers s)) ≡ set (mapped state_of l) i s
 state_put l i s = rw (mapped_set state_of l i (state_numbers s), there_and_back s)
 
--- ---- whether any seat fails a test, asked of one after another
+-- ---- one seat more is asked for its positions
 
-any_more : (fails : ℕ → Bool) (a n : ℕ) → list_any fails (range_with_len a (suc n)) ≡ list_any fails (range_with_len a n) || fails (a + n)
-any_more fails a zero = rw (add-zero a) (or-false (fails a))
-any_more fails a (suc n) =
-    let e : a + 1 + n ≡ a + suc n = omega arith in
-    ap (λ (b : Bool). fails a || b) (rw e at (any_more fails (a + 1) n)) ∙ sym (or_assoc (fails a) (list_any fails (range_with_len (a + 1) n)) (fails (a + suc n)))
-
-pub any_is : (fails : ℕ → Bool) (n : ℕ) → list_any fails (range_with_len 0 n) ≡ any_of fails n
+pub any_more : (l : List StateNumbers) (roll_positions key_lengths roll_lengths : List ℕ) (i : ℕ) (any : Bool) (d : StateNumbers) → i < length l
+    → any ≡ any_of (bad_position key_lengths roll_lengths (mapped state_of l) roll_positions) i
+    → any || (ltb (get_or key_lengths i 0) (get_or l i d).9 || ltb (get_or roll_lengths i 0) (get_or roll_positions i 0))
+    ≡ any_of (bad_position key_lengths roll_lengths (mapped state_of l) roll_positions) (i + 1)
 unfolding any_of
-any_is fails zero = refl
-any_is fails (suc n) = rw (any_more fails 0 n, any_is fails n, zero-add n)
+any_more l roll_positions key_lengths roll_lengths i any d h e =
+    let p : (get_or l i d).9 ≡ (get_or (mapped state_of l) i start_state).position = ap (λ (s : State). s.position) (place_read state_of l i d start_state h) in
+    rw (add-one i, e, p)

@@ -1,12 +1,12 @@
 // The search for the seat that runs.
-ghost use Rattle.std.specs.Prelude.{◌≡◌, ◌+◌, ◌≤◌, ◌<◌, length};
+ghost use Rattle.std.specs.Prelude.{◌≡◌, ◌≤◌, ◌<◌, length};
 ghost use Rattle.slices.specs.Lists.{mapped};
 ghost use Rattle.run_numbers.specs.Runs.{state_of};
 ghost use Rattle.seats.specs.Room.{max_seats, bank_at};
 ghost use Rattle.seats.specs.Turn.{first_from};
 ghost use Rattle.scheduling.specs.internal.Search.{is_overflow_jump, is_transfer, goes_at, goes_by};
 
-use super::places::state_at;
+use super::places::{seat_after, state_at};
 use super::{SeatLengths, SeatNumbers};
 use alu::is_settled;
 use model::State;
@@ -40,21 +40,8 @@ fn can_go(opcode: u8, s: State, full: bool) -> bool
     !(halted | unsettled | no_room)
 }
 
-// Whether seat i can go on.
-fn goes(opcodes: &[u8], roll_lengths: [usize; 8], i: usize, seats: SeatNumbers) -> bool
-    requires { (i < max_seats) × (bank_at (i + 1) ≤ length opcodes.now) }
-    ensures { result ≡ goes_by opcodes.now roll_lengths (mapped state_of seats.0) seats.1 i }
-{
-    let states = seats.0;
-    let roll_positions = seats.1;
-    let bank = BANK_SIZE * i;
-    let s = state_at(states, i);
-    let opcode = load(&opcodes[bank..bank + BANK_SIZE], s.pc);
-    let full = roll_lengths[i] <= roll_positions[i];
-    can_go(opcode, s, full)
-}
-
-// The first of n seats, from a seat on and round them, that can go on, if one can.
+// The first of n seats, from a seat on and round them, that can go on, if one can. `find` over the
+// seats copies the states at each: a turn behind seven halted seats takes a seventh more instructions.
 pub fn next_seat(
     opcodes: &[u8],
     lengths: SeatLengths,
@@ -66,7 +53,18 @@ pub fn next_seat(
     ensures { result ≡ first_from (goes_by opcodes.now lengths.1 (mapped state_of seats.0) seats.1) n from n }
 {
     let roll_lengths = lengths.1;
-    (from..n)
-        .chain(0..from)
-        .find(|i| goes(opcodes, roll_lengths, *i, seats))
+    let states = seats.0;
+    let roll_positions = seats.1;
+    let mut i = from;
+    for asked in 0..n {
+        let bank = BANK_SIZE * i;
+        let s = state_at(states, i);
+        let opcode = load(&opcodes[bank..bank + BANK_SIZE], s.pc);
+        let full = roll_lengths[i] <= roll_positions[i];
+        if can_go(opcode, s, full) {
+            return Some(i);
+        }
+        i = seat_after(n, i);
+    }
+    None
 }
