@@ -4,6 +4,7 @@
 ghost use Rattle.std.specs.Prelude.{◌≡◌, length, get_or, drop, ◌+◌, ◌≤◌, take_while};
 ghost use Rattle.spelling.specs.Spellings.{pattern_of};
 ghost use Rattle.spelling.specs.Words.{in_word, word_length, digit_of, decimal_of, numeral_of, operand_of};
+ghost use Rattle.spelling.specs.internal.Numbers.{if_below, register_of};
 ghost use Rattle.spelling.specs.internal.Rows.{table_bytes};
 
 // What a word of a line is.
@@ -178,63 +179,57 @@ pub fn word_size(line: &[u8], at: usize, only: bool) -> usize
     front_size(&line[at..], only)
 }
 
-// The value of a hexadecimal digit, 16 for any other byte.
-fn digit(c: u8) -> u8
-    ensures { result ≡ digit_of c }
+// The value of a hexadecimal digit.
+fn digit(c: u8) -> Option<u8>
+    ensures { result ≡ if_below 16 (digit_of c) }
 {
-    if c < 48 {
-        return 16;
+    match c {
+        b'0'..=b'9' => Some(c - b'0'),
+        b'A'..=b'F' => Some(c - b'A' + 10),
+        b'a'..=b'f' => Some(c - b'a' + 10),
+        _ => None,
     }
-    if c <= 57 {
-        return c - 48;
-    }
-    if c < 65 {
-        return 16;
-    }
-    if c <= 70 {
-        return c - 55;
-    }
-    if c < 97 {
-        return 16;
-    }
-    if c <= 102 {
-        return c - 87;
-    }
-    16
 }
 
-// The decimal number of three digits, 256 where one is none or the number is over 255.
-fn decimal(h: u8, t: u8, u: u8) -> u16
-    ensures { result ≡ decimal_of h t u }
+// The decimal number of three digits, if they are digits and it is a byte.
+fn decimal(h: u8, t: u8, u: u8) -> Option<u8>
+    ensures { result ≡ if_below 256 (decimal_of h t u) }
 {
-    let v = 100 * (h as u16) + 10 * (t as u16) + (u as u16);
+    let v = 100 * u16::from(h) + 10 * u16::from(t) + u16::from(u);
     if (9 < h) | (9 < t) | (9 < u) | (255 < v) {
-        return 256;
+        return None;
     }
-    v
+    Some(v as u8)
 }
 
-// The number that a word of n bytes is, 256 where it is none.
-fn number(n: usize, b0: u8, b1: u8, b2: u8, b3: u8) -> u16
-    ensures { result ≡ numeral_of n b0 b1 b2 b3 }
+// The number that a word of n bytes is.
+fn number(n: usize, b0: u8, b1: u8, b2: u8, b3: u8) -> Option<u8>
+    ensures { result ≡ if_below 256 (numeral_of n b0 b1 b2 b3) }
 {
-    let p = digit(b0);
-    let q = digit(b1);
-    let r = digit(b2);
-    let s = digit(b3);
     if n == 1 {
-        return decimal(0, 0, p);
+        return decimal(0, 0, digit(b0)?);
     }
     if (n == 2) & !(b0 == b'0') {
-        return decimal(0, p, q);
+        return decimal(0, digit(b0)?, digit(b1)?);
     }
     if (n == 3) & !(b0 == b'0') {
-        return decimal(p, q, r);
+        return decimal(digit(b0)?, digit(b1)?, digit(b2)?);
     }
-    if (n == 4) & (b0 == b'0') & (b1 == b'x') & (r < 16) & (s < 16) {
-        return 16 * (r as u16) + (s as u16);
+    if (n == 4) & (b0 == b'0') & (b1 == b'x') {
+        return Some(16 * digit(b2)? + digit(b3)?);
     }
-    256
+    None
+}
+
+// The register that a word of n bytes is.
+fn register(n: usize, b0: u8, b1: u8) -> Option<u8>
+    ensures { result ≡ register_of n b0 b1 }
+{
+    let d = digit(b1)?;
+    if (n == 2) & (b0 == b'R') & (d < 4) {
+        return Some(d);
+    }
+    None
 }
 
 // What a word is.
@@ -244,19 +239,17 @@ pub fn classify(word: &[u8]) -> Operand
     let n = word.len();
     let b0 = slices::byte_at(word, 0);
     let b1 = slices::byte_at(word, 1);
-    let d = digit(b1);
-    if (n == 2) & (b0 == b'R') & (d < 4) {
-        return Operand::Register(d);
+    if let Some(r) = register(n, b0, b1) {
+        return Operand::Register(r);
     }
-    let v = number(
+    if let Some(v) = number(
         n,
         b0,
         b1,
         slices::byte_at(word, 2),
         slices::byte_at(word, 3),
-    );
-    if v < 256 {
-        return Operand::Number(v as u8);
+    ) {
+        return Operand::Number(v);
     }
     let m = word_size(word, 0, true);
     if (n == m) & (1 <= n) & (n <= 12) {

@@ -1,19 +1,26 @@
-use Rattle.spelling.specs.Words.{operand_of}
-use borrow.Author.Tests.{lt-ltb, le-ltb}
+use Rattle.spelling.proofs.Numerals.{some_told, none_told, register_told, register_none, number_is, name_is, other_is}
 use Rattle.spelling.proofs.classify.Goals as goal
 
-pub returns-then-n-b0 : goal.returns-then-n-b0
-unfolding operand_of
-returns-then-n-b0 c = simp (← c.byte_at-b0.ensures, ← c.byte_at-b1.ensures, ← c.digit-d.ensures, c.if-n-b0.true)
+pub returns-in-Some : goal.returns-in-Some
+returns-in-Some c = register_told c.args.word.now (rw (c.byte_at-b0.ensures, c.byte_at-b1.ensures) at c.register.ensures) c.in-Some.is
 
-pub returns-then-v-lt256 : goal.returns-then-v-lt256
-unfolding operand_of
-returns-then-v-lt256 c = simp (← c.byte_at-b0.ensures, ← c.byte_at-b1.ensures, ← c.digit-d.ensures, c.if-n-b0.false, ← c.byte_at.ensures, ← c.byte_at-2.ensures, ← c.number-v.ensures, lt-ltb _ _ c.if-v-lt256.true)
+pub returns-in-Some-number : goal.returns-in-Some-number
+returns-in-Some-number c =
+    let w = c.args.word.now in
+    let t = register_none w (rw (c.byte_at-b0.ensures, c.byte_at-b1.ensures) at c.register.ensures) c.in_default.is in
+    let n = rw (c.byte_at-b0.ensures, c.byte_at-b1.ensures, c.byte_at.ensures, c.byte_at-2.ensures) at c.number.ensures in
+    number_is w t (some_told 256 _ n c.in-Some-number.is)
 
 pub returns-then-n-m : goal.returns-then-n-m
-unfolding operand_of
-returns-then-n-m c = simp (← c.byte_at-b0.ensures, ← c.byte_at-b1.ensures, ← c.digit-d.ensures, c.if-n-b0.false, ← c.byte_at.ensures, ← c.byte_at-2.ensures, ← c.number-v.ensures, le-ltb _ _ c.if-v-lt256.false, ← c.word_size-m.ensures.0, c.if-n-m.true)
+returns-then-n-m c =
+    let w = c.args.word.now in
+    let t = register_none w (rw (c.byte_at-b0.ensures, c.byte_at-b1.ensures) at c.register.ensures) c.in_default.is in
+    let n = rw (c.byte_at-b0.ensures, c.byte_at-b1.ensures, c.byte_at.ensures, c.byte_at-2.ensures) at c.number.ensures in
+    name_is w t (none_told 256 _ n c.in_default-number.is) (rw c.word_size-m.ensures.0 at c.if-n-m.true)
 
 pub returns : goal.returns
-unfolding operand_of
-returns c = simp (← c.byte_at-b0.ensures, ← c.byte_at-b1.ensures, ← c.digit-d.ensures, c.if-n-b0.false, ← c.byte_at.ensures, ← c.byte_at-2.ensures, ← c.number-v.ensures, le-ltb _ _ c.if-v-lt256.false, ← c.word_size-m.ensures.0, c.if-n-m.false)
+returns c =
+    let w = c.args.word.now in
+    let t = register_none w (rw (c.byte_at-b0.ensures, c.byte_at-b1.ensures) at c.register.ensures) c.in_default.is in
+    let n = rw (c.byte_at-b0.ensures, c.byte_at-b1.ensures, c.byte_at.ensures, c.byte_at-2.ensures) at c.number.ensures in
+    other_is w t (none_told 256 _ n c.in_default-number.is) (rw c.word_size-m.ensures.0 at c.if-n-m.false)

@@ -1,31 +1,24 @@
-use Rattle.spelling.specs.Words.{digit_of}
-use borrow.Author.Tests.{lt-ltb, le-ltb, le-leb, lt-leb}
+use native.Mathlib.Omega.{arith}
+use Rattle.spelling.proofs.Numerals.{figure_digit, large_digit, small_digit, below_figures, below_large, below_small, above_small}
 use Rattle.spelling.proofs.digit.Goals as goal
 
-pub returns-then-c-lt48 : goal.returns-then-c-lt48
-unfolding digit_of
-returns-then-c-lt48 c = simp (lt-ltb _ _ c.if-c-lt48.true)
+pub returns-in-48-to-57 : goal.returns-in-48-to-57
+returns-in-48-to-57 c = figure_digit c.args.c (omega arith) (omega arith)
 
-pub returns-then-c-le57 : goal.returns-then-c-le57
-unfolding digit_of
-returns-then-c-le57 c = simp (le-ltb _ _ c.if-c-lt48.false, le-leb _ _ c.if-c-le57.true)
+pub returns-in-65-to-70 : goal.returns-in-65-to-70
+returns-in-65-to-70 c = large_digit c.args.c (omega arith) (omega arith)
 
-pub returns-then-c-lt65 : goal.returns-then-c-lt65
-unfolding digit_of
-returns-then-c-lt65 c = simp (le-ltb _ _ c.if-c-lt48.false, lt-leb _ _ c.if-c-le57.false, lt-ltb _ _ c.if-c-lt65.true)
+pub returns-in-97-to-102 : goal.returns-in-97-to-102
+returns-in-97-to-102 c = small_digit c.args.c (omega arith) (omega arith)
 
-pub returns-then-c-le70 : goal.returns-then-c-le70
-unfolding digit_of
-returns-then-c-le70 c = simp (le-ltb _ _ c.if-c-lt48.false, lt-leb _ _ c.if-c-le57.false, le-ltb _ _ c.if-c-lt65.false, le-leb _ _ c.if-c-le70.true)
+pub returns-in_default : goal.returns-in_default
+returns-in_default c = below_figures c.args.c (omega arith)
 
-pub returns-then-c-lt97 : goal.returns-then-c-lt97
-unfolding digit_of
-returns-then-c-lt97 c = simp (le-ltb _ _ c.if-c-lt48.false, lt-leb _ _ c.if-c-le57.false, le-ltb _ _ c.if-c-lt65.false, lt-leb _ _ c.if-c-le70.false, lt-ltb _ _ c.if-c-lt97.true)
+pub returns-in_default-2 : goal.returns-in_default-2
+returns-in_default-2 c = below_large c.args.c (omega arith) (omega arith)
 
-pub returns-then-c-le102 : goal.returns-then-c-le102
-unfolding digit_of
-returns-then-c-le102 c = simp (le-ltb _ _ c.if-c-lt48.false, lt-leb _ _ c.if-c-le57.false, le-ltb _ _ c.if-c-lt65.false, lt-leb _ _ c.if-c-le70.false, le-ltb _ _ c.if-c-lt97.false, le-leb _ _ c.if-c-le102.true)
+pub returns-in_default-3 : goal.returns-in_default-3
+returns-in_default-3 c = below_small c.args.c (omega arith) (omega arith)
 
-pub returns : goal.returns
-unfolding digit_of
-returns c = simp (le-ltb _ _ c.if-c-lt48.false, lt-leb _ _ c.if-c-le57.false, le-ltb _ _ c.if-c-lt65.false, lt-leb _ _ c.if-c-le70.false, le-ltb _ _ c.if-c-lt97.false, lt-leb _ _ c.if-c-le102.false)
+pub returns-in_default-4 : goal.returns-in_default-4
+returns-in_default-4 c = above_small c.args.c (omega arith)
