@@ -2,18 +2,15 @@
 -- Assumes nothing.
 use Prim.Native.Nat.{ℕ, ◌*◌, ◌≤◌, ◌<◌}
 use native.Mathlib.Omega.{arith}
-use native.Mathlib.Nat.{pos_of_ne-zero}
-use mathlib.Core.Path.{◌≡◌, refl, sym, ap, ◌∙◌}
+use mathlib.Core.Path.{◌≡◌, refl, sym, ap, ◌∙◌, subst}
 use mathlib.Core.List.{List, ◌++◌}
 use mathlib.Core.Bool.{Bool, false}
-use lib.Dec.{eqb}
 use lib.ListN.{length, set, replicate}
 use lib.Seq.{take_at, take-take}
-use borrow.Author.Tests.{eqb-true, eqb-false}
+use Rattle.std.specs.Prelude.{None, Some}
 use Rattle.model.specs.Step.{Program}
 use Rattle.rules.specs.Grounds.{admit_of}
 use Rattle.rules.specs.Sheet.{routines}
-use Rattle.rules.proofs.Tests.{absurd_bool}
 use Rattle.slices.specs.Parts.{part_of, padded}
 use Rattle.drawings.specs.Drawn.{listed}
 use Rattle.drawings.specs.internal.Cells.{packed}
@@ -22,7 +19,7 @@ use Rattle.drawings.specs.internal.Impossible.{Settles}
 use Rattle.drawings.specs.internal.Visits.{start, Settled}
 use Rattle.drawings.proofs.DraftParts.{list_length}
 use Rattle.drawings.proofs.Drafted as theorem
-use Rattle.judging.specs.internal.Judging.{Drafted, Judged}
+use Rattle.judging.specs.internal.Judging.{Draft, Drafted, Accepted, Judged}
 
 -- ---- a draft
 
@@ -30,20 +27,18 @@ pub first_words : set (replicate 256 0) 0 33554432 ≡ start
 unfolding start packed
 first_words = refl
 
-pub not_settled : {p : Program} {ws s l : List ℕ} {r : Bool} → Settles p ws r → r ≡ false → Drafted p s l 0
-not_settled r e = record { none = λ _. r.none e; some = λ h. absurd (omega arith) }
+pub not_settled : {p : Program} {ws s l : List ℕ} {r : Bool} → Settles p ws r → r ≡ false → Drafted p s l None
+not_settled r e = record { none = λ _. r.none e; some = λ n q. absurd cc }
 
-pub too_many : {p : Program} {ws s l : List ℕ} {n : ℕ} → Settled p ws → n ≡ rank ws 256 → 64 < n → Drafted p s l 0
-too_many {p} {ws} v e h = record { none = λ _. theorem.too_many p ws v (omega arith); some = λ k. absurd (omega arith) }
+pub too_many : {p : Program} {ws s l : List ℕ} {n : ℕ} → Settled p ws → n ≡ rank ws 256 → 64 < n → Drafted p s l None
+too_many {p} {ws} v e h = record { none = λ _. theorem.too_many p ws v (omega arith); some = λ n q. absurd cc }
 
 pub drafted :
     {p : Program} {ws s l : List ℕ} {n : ℕ} → Settled p ws → n ≡ rank ws 256 → n ≤ 64 → s ≡ sheet_of ws → l ≡ padded 128 (list_of ws)
-    → Drafted p s l n
-drafted {p} {ws} v e h q w =
-    record {
-      none = λ z. theorem.no_routines p ws v (sym e ∙ z);
-      some = λ _. record { words = ws; settled = v; count = e; few = h; sheet_is = q; list_is = w };
-    }
+    → Drafted p s l (Some n)
+drafted {p} {ws} {s} {l} {n} v e h q w =
+    let d : Draft p s l n = record { words = ws; settled = v; count = e; few = h; sheet_is = q; list_is = w } in
+    record { none = λ z. absurd cc; some = λ k z. let same : n ≡ k = cc in subst (Draft p s l) same d }
 
 -- ---- admission's answer
 
@@ -55,31 +50,39 @@ count_drafted : (p : Program) (ws : List ℕ) → length (list_of ws) ≡ 2 * ra
 unfolding draft_of
 count_drafted p ws = list_length p ws
 
-pub judged :
-    (p : Program) (s l : List ℕ) (n answer : ℕ) {part : List ℕ} → Drafted p s l n → (n ≡ 0 → ⊥) → part ≡ part_of l 0 (2 * n)
-    → answer ≡ admit_of (listed p s part) → Judged p s l n (eqb answer 0)
-unfolding draft_of routines
-judged p s l n answer {part} d h lends e =
-    let f = d.some (pos_of_ne-zero h) in
-    let ws = f.words in
-    let c = f.count in
-    let few = f.few in
-    let long : length (list_of ws) ≡ 2 * n = count_drafted p ws ∙ ap (λ (k : ℕ). 2 * k) (sym c) in
-    let is_list : part ≡ list_of ws =
-    lends ∙ ap (λ (x : List ℕ). part_of x 0 (2 * n)) f.list_is ∙ unpadded (list_of ws) (2 * n) long (omega arith) in
-    let a : answer ≡ admit_of (draft_of p ws) =
-    e ∙ ap (λ (x : List ℕ). admit_of (listed p x part)) f.sheet_is ∙ ap (λ (x : List ℕ). admit_of (listed p (sheet_of ws) x)) is_list in
-    record {
-      accepts = λ q.
-          record {
-            list = list_of ws;
-            drawn = rw f.sheet_is (theorem.draft_drawn p ws f.settled (sym a ∙ eqb-true answer 0 q));
-            buffer_is = f.list_is;
-            count = omega arith;
-            few = few;
-          };
-      refuses = λ q. theorem.none_admitted p ws f.settled (λ z. eqb-false answer 0 q (a ∙ z));
-    }
+module _ (p : Program) (s l : List ℕ) (n : ℕ) (answer : ℕ) {part : List ℕ} (f : Draft p s l n) (lends : part ≡ part_of l 0 (2 * n))
+    (e : answer ≡ admit_of (listed p s part)) where
+  is_list : part ≡ list_of f.words
+  unfolding draft_of routines
+  is_list =
+      let c = f.count in
+      let few = f.few in
+      let long : length (list_of f.words) ≡ 2 * n = count_drafted p f.words ∙ ap (λ (k : ℕ). 2 * k) (sym c) in
+      lends ∙ ap (λ (x : List ℕ). part_of x 0 (2 * n)) f.list_is ∙ unpadded (list_of f.words) (2 * n) long (omega arith)
 
-pub nothing_judged : (p : Program) (s l : List ℕ) (n : ℕ) → Drafted p s l n → n ≡ 0 → Judged p s l n false
-nothing_judged p s l n d z = record { accepts = λ e. absurd_bool (sym e); refuses = λ _. d.none z }
+  is_answer : answer ≡ admit_of (draft_of p f.words)
+  unfolding draft_of
+  is_answer =
+      e ∙ ap (λ (x : List ℕ). admit_of (listed p x part)) f.sheet_is ∙ ap (λ (x : List ℕ). admit_of (listed p (sheet_of f.words) x)) is_list
+
+  pub accepted : answer ≡ 0 → Accepted p s l n
+  unfolding draft_of routines
+  accepted q =
+      let c = f.count in
+      let long : length (list_of f.words) ≡ 2 * n = count_drafted p f.words ∙ ap (λ (k : ℕ). 2 * k) (sym c) in
+      record {
+        list = list_of f.words;
+        drawn = rw f.sheet_is (theorem.draft_drawn p f.words f.settled (sym is_answer ∙ q));
+        buffer_is = f.list_is;
+        count = omega arith;
+        few = f.few;
+      }
+
+  pub judged : answer ≡ 0 → Judged p s l (Some n)
+  judged q = record { accepts = λ k z. let same : n ≡ k = cc in subst (Accepted p s l) same (accepted q); refuses = λ z. absurd cc }
+
+  pub turned_down : (answer ≡ 0 → ⊥) → Judged p s l None
+  turned_down h = record { accepts = λ k z. absurd cc; refuses = λ _. theorem.none_admitted p f.words f.settled (λ z. h (is_answer ∙ z)) }
+
+pub nothing_judged : (p : Program) (s l : List ℕ) → Drafted p s l None → Judged p s l None
+nothing_judged p s l d = record { accepts = λ k z. absurd cc; refuses = λ _. d.none refl }

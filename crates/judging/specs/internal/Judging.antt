@@ -1,6 +1,6 @@
 -- A draft of settled words, and what admission's answer on it tells.
 -- Assumes nothing.
-use Rattle.std.specs.Prelude.{ℕ, ◌≤◌, ◌<◌, ◌≡◌, Bool, true, false, List}
+use Rattle.std.specs.Prelude.{ℕ, ◌≤◌, ◌≡◌, List, Option, None, Some}
 use Rattle.model.specs.Step.{Program}
 use Rattle.rules.specs.Grounds.{max_list_size}
 use Rattle.rules.specs.Sheet.{routines}
@@ -20,10 +20,10 @@ pub record Draft (p : Program) (s l : List ℕ) (n : ℕ) : Type 0 where
   pub sheet_is : s ≡ sheet_of words
   pub list_is : l ≡ padded max_list_size (list_of words)
 
--- 0 routines: nothing can be admitted, and there is no draft
-pub record Drafted (p : Program) (s l : List ℕ) (n : ℕ) : Type 0 where
-  pub none : n ≡ 0 → NoneAdmitted p
-  pub some : 0 < n → Draft p s l n
+-- no routines: nothing can be admitted, and there is no draft
+pub record Drafted (p : Program) (s l : List ℕ) (routines : Option ℕ) : Type 0 where
+  pub none : routines ≡ None → NoneAdmitted p
+  pub some : (n : ℕ) → routines ≡ Some n → Draft p s l n
 
 -- a draft that is a drawing
 pub record Accepted (p : Program) (s l : List ℕ) (n : ℕ) : Type 0 where
@@ -33,6 +33,6 @@ pub record Accepted (p : Program) (s l : List ℕ) (n : ℕ) : Type 0 where
   pub count : n ≡ routines (listed p s list)
   pub few : n ≤ 64
 
-pub record Judged (p : Program) (s l : List ℕ) (n : ℕ) (answer : Bool) : Type 0 where
-  pub accepts : answer ≡ true → Accepted p s l n
-  pub refuses : answer ≡ false → NoneAdmitted p
+pub record Judged (p : Program) (s l : List ℕ) (routines : Option ℕ) : Type 0 where
+  pub accepts : (n : ℕ) → routines ≡ Some n → Accepted p s l n
+  pub refuses : routines ≡ None → NoneAdmitted p

@@ -1,0 +1,19 @@
+-- Admission judges the draft.
+use native.Mathlib.Omega.{arith}
+use Rattle.judging.proofs.Judgements.{judged, turned_down}
+use Rattle.judging.proofs.admitted.Goals as goal
+
+pub overflow_mul-n : goal.overflow_mul-n
+overflow_mul-n c = let f = c.requires.some c.in_ok-n.n c.in_ok-n.was in omega (arith, f.few)
+
+pub returns-then-answer-eq0 : goal.returns-then-answer-eq0
+returns-then-answer-eq0 c =
+    let a = c.args in
+    let f = c.requires.some c.in_ok-n.n c.in_ok-n.was in
+    judged _ a.sheet.now a.list.now c.in_ok-n.n c.cesca_admit-answer.result f c.part.ensures c.cesca_admit-answer.ensures.answers c.if-answer-eq0.true
+
+pub returns-else-answer-eq0 : goal.returns-else-answer-eq0
+returns-else-answer-eq0 c =
+    let a = c.args in
+    let f = c.requires.some c.in_ok-n.n c.in_ok-n.was in
+    turned_down _ a.sheet.now a.list.now c.in_ok-n.n c.cesca_admit-answer.result f c.part.ensures c.cesca_admit-answer.ensures.answers c.if-answer-eq0.false
