@@ -39,9 +39,6 @@ pub record Passing (bs : List ℕ) (at i : ℕ) : Type 0 where
   pub from : at ≤ i
   pub whole : at + last_of (drop at bs) ≡ i + last_of (drop i bs)
 
-pub pass_starts : {bs : List ℕ} {at : ℕ} → Passing bs at at
-pass_starts = record { from = omega arith; whole = refl }
-
 pub pass_here : {bs : List ℕ} {at i : ℕ} → Passing bs at i → i < length bs → get_or bs i 0 < 128 → EndsAt bs at (Some i)
 pass_here {bs} {at} {i} p h l = let w = p.whole in let z = last_here bs i h l in (omega arith, h)
 

@@ -2,7 +2,7 @@
 -- Assumes nothing.
 use Prim.Native.Nat.{ℕ, ◌+◌, ◌/◌, ◌%◌, ◌≤◌, ◌<◌}
 use native.Mathlib.Omega.{arith}
-use mathlib.Core.Path.{◌≡◌, refl, sym, ◌∙◌}
+use mathlib.Core.Path.{◌≡◌, sym, ◌∙◌}
 use lib.ListN.{length}
 use Rattle.pages.specs.Page.{Page, put_of, write_of}
 use Rattle.groups.specs.Groups.{groups_of}
@@ -11,9 +11,6 @@ use Rattle.groups.proofs.Groups.{last_group, more_groups}
 pub record Putting (n : ℕ) (p₀ : Page) (rest : ℕ) (p : Page) : Type 0 where
   pub room : length p.bytes ≡ length p₀.bytes
   pub left : write_of (groups_of rest) p ≡ write_of (groups_of n) p₀
-
-pub put_starts : {n : ℕ} {p : Page} → Putting n p n p
-put_starts = record { room = refl; left = refl }
 
 pub put_goes : {n rest x : ℕ} {p₀ p q : Page} → Putting n p₀ rest p → 127 < rest → x ≡ 128 + rest % 128 → q ≡ put_of x p → length q.bytes ≡ length p.bytes
     → Putting n p₀ (rest / 128) q

@@ -2,7 +2,6 @@
 -- Assumes nothing.
 use Prim.Native.Nat.{ℕ, zero, suc, ◌+◌, ◌-◌, ◌≤◌, ◌<◌}
 use native.Mathlib.Omega.{arith}
-use native.Mathlib.Nat.{sub-zero}
 use mathlib.Core.Path.{◌≡◌, refl, sym, ap, ◌∙◌}
 use mathlib.Core.List.{List, [], ◌∷◌, ◌++◌}
 use lib.ListN.{length, get_or, drop, drop_of_length-le}
@@ -21,11 +20,6 @@ pub record Rows {X : Type 0} (fs : List Field) (file : List ℕ) (at n a next : 
   pub within : a ≤ n
   pub inside : at ≤ length file → next ≤ length file
   pub left : and_then (numbers_in (repeated n fs) (drop at file)) f ≡ and_then (numbers_in (repeated (n - a) fs) (drop next file)) g
-
-module _ {X : Type 0} {fs : List Field} {file : List ℕ} {at n : ℕ} {f : After X} where
-  pub rows_start : Rows fs file at n 0 at f f
-  rows_start =
-      record { within = omega arith; inside = λ h. h; left = ap (λ (k : ℕ). and_then (numbers_in (repeated k fs) (drop at file)) f) (sym (sub-zero n)) }
 
 -- one row and then m more
 one_row : {X : Type 0} (fs : List Field) (k m : ℕ) (bs : List ℕ) (g : After X) (r : Read (List ℕ)) → k ≡ suc m → r ≡ numbers_in fs bs

@@ -2,7 +2,7 @@
 -- Assumes nothing.
 use Prim.Native.Nat.{ℕ, zero, suc, ◌-◌, ◌≤◌, ◌<◌}
 use native.Mathlib.Omega.{arith}
-use mathlib.Core.Path.{◌≡◌, refl, sym, ap, ◌∙◌}
+use mathlib.Core.Path.{◌≡◌, sym, ap, ◌∙◌}
 use mathlib.Core.Bool.{true, false}
 use Rattle.rules.specs.Sheet.{Listing}
 use Rattle.files.specs.File.{blank, used_below, least_of}
@@ -10,9 +10,6 @@ use Rattle.files.specs.File.{blank, used_below, least_of}
 pub record Counting (L : Listing) (n : ℕ) : Type 0 where
   pub within : n ≤ 256
   pub left : used_below L n ≡ least_of L
-
-pub count_starts : {L : Listing} → Counting L 256
-count_starts = record { within = omega arith; left = refl }
 
 here : (L : Listing) (n m : ℕ) → n ≡ suc m → blank L m ≡ false → used_below L n ≡ n
 unfolding used_below

@@ -2,7 +2,6 @@
 -- Assumes nothing.
 use Prim.Native.Nat.{ℕ, suc, ◌+◌, ◌-◌, ◌≤◌, ◌<◌}
 use native.Mathlib.Omega.{arith}
-use native.Mathlib.Nat.{sub-zero}
 use native.Mathlib.Numerals.{add-one}
 use mathlib.Core.Path.{◌≡◌, refl, sym, ap, ◌∙◌}
 use mathlib.Core.List.{List, [], ◌∷◌}
@@ -35,9 +34,6 @@ pub record PutTo (L : Listing) (n : ℕ) (p₀ : Page) (a : ℕ) (p : Page) : Ty
   pub room : length p.bytes ≡ length p₀.bytes
   pub left : write_of (row_of (address_numbers L a (n - a))) p ≡ write_of (row_of (address_numbers L 0 n)) p₀
 
-pub to_starts : {L : Listing} {n : ℕ} {p : Page} → PutTo L n p 0 p
-to_starts {L} {n} {p} = record { within = omega arith; room = refl; left = ap (λ (k : ℕ). write_of (row_of (address_numbers L 0 k)) p) (sub-zero n) }
-
 one_more : (L : Listing) (a k m b : ℕ) (p : Page) → k ≡ suc m → b ≡ suc a
     → write_of (row_of (address_numbers L a k)) p ≡ write_of (row_of (address_numbers L b m)) (write_of (row_of (address_numbers L a 1)) p)
 unfolding address_numbers
@@ -65,9 +61,6 @@ to_ends {L} {n} {a} {p₀} {p} t l = sym (no_more L a (n - a) p (omega arith)) �
 pub record PutBytes (bytes : List ℕ) (p₀ : Page) (i : ℕ) (p : Page) : Type 0 where
   pub room : length p.bytes ≡ length p₀.bytes
   pub left : write_of (row_of (drop i bytes)) p ≡ write_of (row_of bytes) p₀
-
-pub bytes_start : {bytes : List ℕ} {p : Page} → PutBytes bytes p 0 p
-bytes_start = record { room = refl; left = refl }
 
 pub bytes_go : {bytes : List ℕ} {i : ℕ} {p₀ p q : Page} → PutBytes bytes p₀ i p → i < length bytes → q ≡ write_of (groups_of (get_or bytes i 0)) p
     → length q.bytes ≡ length p.bytes → PutBytes bytes p₀ (i + 1) q
