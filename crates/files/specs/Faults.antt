@@ -2,6 +2,7 @@
 -- Assumes nothing.
 use Rattle.std.specs.Prelude.{ℕ, Result, Ok, Err}
 use Rattle.groups.specs.Faults.{fault_number}
+use Rattle.sheets.specs.internal.Grounds.{rule_number}
 use Rattle.files.specs.declared.ShelvingFault.{ShelvingFault}
 use Rattle.files.specs.declared.ShelvingFault.TheVariants as shelving
 use Rattle.files.specs.declared.OpeningFault.{OpeningFault}
@@ -9,17 +10,17 @@ use Rattle.files.specs.declared.OpeningFault.TheVariants as opening
 
 -- "the writer gives 1 to 3 first", "32 when the writer's buffer is below 2,051 bytes"
 abbrev pub shelving_number : ShelvingFault → ℕ
-shelving_number (shelving.Length q) = q
+shelving_number (shelving.Length k) = rule_number k
 shelving_number shelving.NoRoom = 32
 
 -- "and so does the opener for its buffers"; then 30 and 31
 abbrev pub opening_number : OpeningFault → ℕ
-opening_number (opening.Length q) = q
+opening_number (opening.Length k) = rule_number k
 opening_number (opening.File r) = fault_number r.fault
 
 -- 0 where no file was looked at
 abbrev pub opening_place : OpeningFault → ℕ
-opening_place (opening.Length q) = 0
+opening_place (opening.Length k) = 0
 opening_place (opening.File r) = r.at
 
 -- the writer's answer: the file's length, or a refusal's number

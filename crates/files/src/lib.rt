@@ -4,9 +4,11 @@
 
 ghost use Rattle.std.specs.Prelude.{◌≡◌};
 ghost use Rattle.files.specs.Faults.{shelving_number, opening_number, opening_place};
-ghost use Rattle.files.specs.declared.OpeningFault.TheVariants.{File};
+ghost use Rattle.files.specs.declared.ShelvingFault.TheVariants as shelving;
+ghost use Rattle.files.specs.declared.OpeningFault.TheVariants as opening;
 
 use groups::Refusal;
+use sheets::grounds::Rule;
 
 // The bytes that the longest file has.
 pub const FILE_ROOM: usize = 2051;
@@ -15,9 +17,17 @@ pub const FILE_ROOM: usize = 2051;
 #[derive(Clone, Copy)]
 pub enum ShelvingFault {
     // A part of the listing has a wrong length: banks (1), sheet (2) or list (3).
-    Length(u8),
+    Length(Rule),
     // The buffer has no room for the longest file.
     NoRoom,
+}
+
+impl From<Rule> for ShelvingFault {
+    ghost from_gives = { λ rule fault. fault ≡ shelving.Length rule };
+
+    fn from(rule: Rule) -> ShelvingFault {
+        ShelvingFault::Length(rule)
+    }
 }
 
 impl From<ShelvingFault> for u8 {
@@ -26,7 +36,7 @@ impl From<ShelvingFault> for u8 {
     // A fault's number.
     fn from(fault: ShelvingFault) -> u8 {
         match fault {
-            ShelvingFault::Length(number) => number,
+            ShelvingFault::Length(rule) => u8::from(rule),
             ShelvingFault::NoRoom => 32,
         }
     }
@@ -36,13 +46,21 @@ impl From<ShelvingFault> for u8 {
 #[derive(Clone, Copy)]
 pub enum OpeningFault {
     // A buffer has a wrong length: banks (1), sheet (2) or list (3).
-    Length(u8),
+    Length(Rule),
     // The file is refused.
     File(Refusal),
 }
 
+impl From<Rule> for OpeningFault {
+    ghost from_gives = { λ rule fault. fault ≡ opening.Length rule };
+
+    fn from(rule: Rule) -> OpeningFault {
+        OpeningFault::Length(rule)
+    }
+}
+
 impl From<Refusal> for OpeningFault {
-    ghost from_gives = { λ refusal fault. fault ≡ File refusal };
+    ghost from_gives = { λ refusal fault. fault ≡ opening.File refusal };
 
     fn from(refusal: Refusal) -> OpeningFault {
         OpeningFault::File(refusal)
@@ -55,7 +73,7 @@ impl From<OpeningFault> for u8 {
     // A fault's number.
     fn from(fault: OpeningFault) -> u8 {
         match fault {
-            OpeningFault::Length(number) => number,
+            OpeningFault::Length(rule) => u8::from(rule),
             OpeningFault::File(refusal) => u8::from(refusal.fault),
         }
     }

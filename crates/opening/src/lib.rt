@@ -87,9 +87,7 @@ pub fn open_file(
     ensures { outcome (opened_as result) (listing opcodes.new arguments.new sheet.new list.new)
         ≡ opened_of file.now (listing opcodes.old arguments.old sheet.old list.old) }
 {
-    if let Err(rule) = buffer_sizes(opcodes, arguments, sheet, list) {
-        return Err(OpeningFault::Length(u8::from(rule)));
-    }
+    buffer_sizes(opcodes, arguments, sheet, list)?;
     let contents = judge(file)?;
     fill_addresses(
         file,

@@ -121,9 +121,7 @@ pub fn shelve(
 ) -> Result<usize, ShelvingFault>
     ensures { written (shelved_as result) out.new ≡ shelved_of (listing opcodes.now arguments.now sheet.now list.now) out.old }
 {
-    if let Err(rule) = listing_sizes(opcodes, arguments, sheet, list) {
-        return Err(ShelvingFault::Length(u8::from(rule)));
-    }
+    listing_sizes(opcodes, arguments, sheet, list)?;
     if out.len() < FILE_ROOM {
         return Err(ShelvingFault::NoRoom);
     }
