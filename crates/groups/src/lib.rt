@@ -42,6 +42,7 @@ pub fn put_number(out: &mut [u8], at: usize, n: u32) -> usize
 {
     let mut next = at;
     let mut rest = n;
+    // No index: how often this goes is known only by what is left of the number.
     while 127 < rest {
         next = pages::put(out, next, 128 + ((rest % 128) as u8));
         rest /= 128;
