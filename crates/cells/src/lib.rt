@@ -17,8 +17,7 @@ pub const REACHED: u32 = 33554432;
 pub fn word_of(cells: &[u32], a: u8) -> u32
     ensures { result ≡ get_or cells.now a 0 }
 {
-    let i = a as usize;
-    if i < cells.len() { cells[i] } else { 0 }
+    slices::get_or(cells, usize::from(a), 0)
 }
 
 // The cell in a word.

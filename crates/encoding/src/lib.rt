@@ -37,9 +37,7 @@ fn is_bad_function(g: Argument) -> bool
 {
     match g {
         Argument::FFFFXXBB(f, _) => 15 < f,
-        Argument::IIIIIIII(_) => false,
-        Argument::XXXXXXBB(_) => false,
-        Argument::XXXXXXXX => false,
+        Argument::IIIIIIII(_) | Argument::XXXXXXBB(_) | Argument::XXXXXXXX => false,
     }
 }
 
@@ -73,8 +71,7 @@ fn argument_byte(g: Argument) -> u8
 fn join(row: Row) -> Result<(u8, u8), EncodeError>
     ensures { result ≡ join_of row }
 {
-    let o = row.0;
-    let g = row.1;
+    let Row(o, g, _) = row;
     if is_bad_opcode(o) | is_bad_argument(g) {
         return Err(EncodeError::BadRegister);
     }
@@ -124,7 +121,7 @@ pub fn put(
     let Ok((opcode, argument)) = e else {
         return e;
     };
-    let place = at as usize;
+    let place = usize::from(at);
     opcodes[place] = opcode;
     arguments[place] = argument;
     Ok((opcode, argument))

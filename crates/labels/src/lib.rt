@@ -1,7 +1,7 @@
 // The lines of a text, how many words they stand for, and the labels that they give and use.
 #![tactic(auto)]
 
-ghost use Rattle.std.specs.Prelude.{◌≡◌, false, not, eqb, length, take, drop, take_while, set, ◌+◌, ◌-◌, ◌≤◌, ◌<◌, min};
+ghost use Rattle.std.specs.Prelude.{◌≡◌, false, not, eqb, length, take, drop, take_while, ◌+◌, ◌-◌, ◌≤◌, ◌<◌, min};
 ghost use Rattle.spelling.specs.internal.Rows.{table_bytes};
 ghost use Rattle.labels.specs.Lines.{lines_of, label_size, label_of, line_of, size_of};
 ghost use Rattle.labels.specs.Labels.{same, given_at, repeats, misses};
@@ -106,15 +106,6 @@ fn count_on(n: usize, size: usize) -> usize
     n + size
 }
 
-// A byte is put at a place, where there is room.
-pub fn set_at(bytes: &mut [u8], at: usize, x: u8)
-    ensures { bytes.new ≡ set bytes.old at x }
-{
-    if at < bytes.len() {
-        bytes[at] = x;
-    }
-}
-
 // The words of all lines, counting stops above 256; or the first line that is no instruction or macro. The
 // words before each of the first 256 lines go into a lent buffer.
 pub fn inspect(table: &[u8], text: &[u8], addresses: &mut [u8]) -> Result<usize, BadLine>
@@ -130,7 +121,7 @@ pub fn inspect(table: &[u8], text: &[u8], addresses: &mut [u8]) -> Result<usize,
         let Some(size) = line_size(table, &text[at..end]) else {
             return Err(BadLine { number: k });
         };
-        set_at(addresses, k - 1, (words % 256) as u8);
+        slices::set(addresses, k - 1, (words % 256) as u8);
         words = count_on(words, size);
         k += 1;
         at = next_line(end, n);

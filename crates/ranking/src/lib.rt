@@ -22,7 +22,7 @@ pub struct AddressCount {
 pub fn count_at(counters: &[u32], a: usize) -> u32
     ensures { result ≡ get_or counters.now a 0 }
 {
-    if a < counters.len() { counters[a] } else { 0 }
+    slices::get_or(counters, a, 0)
 }
 
 // Whether x comes before y: the larger count first, of equal counts the lower address.

@@ -58,6 +58,5 @@ pub fn layout(instr: Instr) -> Row
 pub fn cycles(instr: Instr) -> u8
     ensures { result ≡ cycles_of instr }
 {
-    let row = layout(instr);
-    row.2
+    layout(instr).2
 }

@@ -42,12 +42,12 @@ pub fn part(s: &[u8], at: usize, n: usize) -> &[u8]
 pub fn load(bank: &[u8], a: u8) -> u8
     ensures { result ≡ get_or bank.now a 0 }
 {
-    byte_at(bank, a as usize)
+    byte_at(bank, usize::from(a))
 }
 
 // A byte is put at an address; past the bank's end nothing changes.
 pub fn store(bank: &mut [u8], a: u8, v: u8)
     ensures { bank.new ≡ set bank.old a v }
 {
-    set(bank, a as usize, v);
+    set(bank, usize::from(a), v);
 }

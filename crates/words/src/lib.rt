@@ -31,8 +31,8 @@ fn store(instr: Instr, at: usize, opcodes: &mut [u8], arguments: &mut [u8])
     ensures { (opcodes.new ≡ set opcodes.old at (opcode_of instr)) × (arguments.new ≡ set arguments.old at (argument_of instr)) }
 {
     let w = bytes_of(instr);
-    labels::set_at(opcodes, at, w.0);
-    labels::set_at(arguments, at, w.1);
+    slices::set(opcodes, at, w.0);
+    slices::set(arguments, at, w.1);
 }
 
 // The forms of a row are stored from a place on.

@@ -29,4 +29,4 @@ pub returns : goal.returns
 returns c =
     let a = c.args in
     let e = good_banks a.instr a.opcodes.now a.arguments.now c.if-opcodes-ne-BANK_SIZE.false c.if-arguments-ne-BANK_SIZE.false ∙ sym c.encode-e.ensures.rule ∙ c.in-Ok.is in
-    put_outcome _ _ _ _ (sym e) (rw e) (rw e)
+    put_outcome _ _ _ _ (sym e) (rw (c.from-place.ensures, e)) (rw (c.from-place.ensures, e))

@@ -12,7 +12,7 @@ returns-in_default c = inspect_hits c.loop-at.invariant c.loop-at-test.true c.li
 pub loop-at-preserved : goal.loop-at-preserved
 loop-at-preserved c =
     let s = number_told c.line_size.ensures.0 c.in-Some.is in
-    inspect_goes c.loop-at.invariant c.loop-at-test.true c.line_end-end.ensures.0 c.line_end-end.ensures.1 s.0 s.1 c.next_line-at.ensures.0 c.count_on-words.ensures c.set_at.ensures
+    inspect_goes c.loop-at.invariant c.loop-at-test.true c.line_end-end.ensures.0 c.line_end-end.ensures.1 s.0 s.1 c.next_line-at.ensures.0 c.count_on-words.ensures c.set.ensures
 
 pub returns : goal.returns
 returns c = inspect_ends c.loop-at.invariant c.loop-at-test.false
