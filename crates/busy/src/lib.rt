@@ -2,7 +2,7 @@
 // `runs`, and is inlined into the observed loop.
 #![tactic(auto)]
 
-ghost use Rattle.std.specs.Prelude.{◌≡◌, ◌≤◌, length, replicate, Err};
+ghost use Rattle.std.specs.Prelude.{◌≡◌, ◌≤◌, length, Err};
 ghost use Rattle.slices.specs.Sizes.{bank_size};
 ghost use Rattle.model.specs.Run.{call, outcome, max_budget};
 ghost use Rattle.run_numbers.specs.Runs.{state_of};
@@ -26,17 +26,6 @@ pub struct BusyReport {
 #[repr(C)]
 #[derive(Clone, Copy)]
 pub struct BusyNumbers(pub RunNumbers, pub usize);
-
-// The counters are set to 0.
-fn clear(counters: &mut [u32])
-    ensures { counters.new ≡ replicate (length counters.old) 0 }
-{
-    let mut i: usize = 0;
-    while i < counters.len() {
-        counters[i] = 0;
-        i += 1;
-    }
-}
 
 // Whether a busy run may begin, or the first rule that its call breaks.
 fn refusal(
@@ -75,7 +64,7 @@ fn run_recorded(
     requires { (budget ≤ max_budget) × (length counters.old ≡ bank_size) × (page_size ≤ length page.old) }
     ensures { BusyRan (call opcodes.now arguments.now keys.now budget start ram.old stack.old roll.old) (records counters.old page.old) (busy_outcome (outcome result.answer result.state ram.new stack.new roll.new) result.lines (records counters.new page.new)) }
 {
-    clear(counters);
+    counters.fill(0);
     let mut log = [0u8; 0];
     let report = observation::observe(
         opcodes, arguments, keys, ram, stack, roll, counters, &mut log, budget, start,

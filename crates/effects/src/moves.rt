@@ -40,13 +40,6 @@ pub fn stored(s: State, a: u8, v: u8, n: u8) -> Effect
     }
 }
 
-// A byte as a word of the roll.
-pub fn word(v: u8) -> u16
-    ensures { result ≡ v }
-{
-    v as u16
-}
-
 // A word to the roll.
 pub fn sent(s: State, w: u16, n: u8) -> Effect
     ensures { result ≡ effect s (Action.Roll w) n }

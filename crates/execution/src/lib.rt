@@ -8,7 +8,7 @@ ghost use Rattle.isa.specs.Decode.{decode_of};
 ghost use Rattle.effects.specs.internal.Effects.{behavior_by, behavior_of};
 
 use branches::{branch_effect, branch_outcome};
-use effects::moves::{acknowledged, moved, sent, shown, stored, word};
+use effects::moves::{acknowledged, moved, sent, shown, stored};
 use effects::results::{comparing, computed, computing, flagged};
 use effects::stack::{called, popped, pushed, returned, swapped};
 use effects::{Effect, state_only};
@@ -49,10 +49,10 @@ fn execute_form(
         Instr::JmpReg(a) => state_only(states::to_pc(s, load(regs, a)), 3),
         Instr::Call(i) => called(s, i),
         Instr::Ret => returned(s, load(stack, s.sp)),
-        Instr::LcdCmd(i) => sent(s, 256 + word(i), 3),
-        Instr::LcdImm(i) => sent(s, word(i), 3),
-        Instr::LcdReg(a) => sent(s, word(load(regs, a)), 3),
-        Instr::LcdMem(i) => sent(s, word(load(ram, i)), 4),
+        Instr::LcdCmd(i) => sent(s, 256 + u16::from(i), 3),
+        Instr::LcdImm(i) => sent(s, u16::from(i), 3),
+        Instr::LcdReg(a) => sent(s, u16::from(load(regs, a)), 3),
+        Instr::LcdMem(i) => sent(s, u16::from(load(ram, i)), 4),
         Instr::OutReg(a) => shown(s, load(regs, a), 3),
         Instr::OutMem(i) => shown(s, load(ram, i), 4),
         Instr::Hlt => state_only(states::to_halted(s, true), 2),

@@ -38,7 +38,7 @@ fn note(counters: &mut [u32], log: &mut [u8], noted: usize, a: u8) -> usize
 
 // The steps of a budget up to the first stop, as a run makes them, each address noted. The loop stands
 // beside the run's own, so that a run that nobody observes pays nothing. The log's place is counted
-// apart from the steps, so that an empty log costs nothing.
+// apart from the steps, so that an empty log costs nothing. A `while` as there, for the same speed.
 pub fn observe(
     opcodes: &[u8],
     arguments: &[u8],

@@ -23,87 +23,51 @@ pub fn sp_after_pop(sp: u8) -> u8
     std::num::wrapping_add_u8(sp, 1)
 }
 
-// A state of these parts. A changed state is written whole: a copy with one field stored to would be
-// packed and unpacked at every step.
-fn state(
-    regs: [u8; 4],
-    pc: u8,
-    sp: u8,
-    out: u8,
-    flags: Flags,
-    halted: bool,
-    position: usize,
-) -> State
-    ensures { result ≡ record { regs = regs; pc = pc; sp = sp; out = out; flags = flags; halted = halted; position = position } }
-{
-    State {
-        regs: regs,
-        pc: pc,
-        sp: sp,
-        out: out,
-        flags: flags,
-        halted: halted,
-        position: position,
-    }
-}
-
 // The state with its registers changed.
 pub fn to_registers(s: State, regs: [u8; 4]) -> State
     ensures { result ≡ with_registers s regs }
 {
-    let f = s.flags;
-    state(regs, s.pc, s.sp, s.out, f, s.halted, s.position)
+    State { regs: regs, ..s }
 }
 
 // The state with PC changed.
 pub fn to_pc(s: State, n: u8) -> State
     ensures { result ≡ with_pc s n }
 {
-    let g = s.regs;
-    let f = s.flags;
-    state(g, n, s.sp, s.out, f, s.halted, s.position)
+    State { pc: n, ..s }
 }
 
 // The state with SP changed.
 pub fn to_sp(s: State, n: u8) -> State
     ensures { result ≡ with_sp s n }
 {
-    let g = s.regs;
-    let f = s.flags;
-    state(g, s.pc, n, s.out, f, s.halted, s.position)
+    State { sp: n, ..s }
 }
 
 // The state with the output register changed.
 pub fn to_out(s: State, n: u8) -> State
     ensures { result ≡ with_out s n }
 {
-    let g = s.regs;
-    let f = s.flags;
-    state(g, s.pc, s.sp, n, f, s.halted, s.position)
+    State { out: n, ..s }
 }
 
 // The state with the flags changed.
 pub fn to_flags(s: State, f: Flags) -> State
     ensures { result ≡ with_flags s f }
 {
-    let g = s.regs;
-    state(g, s.pc, s.sp, s.out, f, s.halted, s.position)
+    State { flags: f, ..s }
 }
 
 // The state with whether it is halted changed.
 pub fn to_halted(s: State, b: bool) -> State
     ensures { result ≡ with_halted s b }
 {
-    let g = s.regs;
-    let f = s.flags;
-    state(g, s.pc, s.sp, s.out, f, b, s.position)
+    State { halted: b, ..s }
 }
 
 // The state with the key position changed.
 pub fn to_position(s: State, n: usize) -> State
     ensures { result ≡ with_position s n }
 {
-    let g = s.regs;
-    let f = s.flags;
-    state(g, s.pc, s.sp, s.out, f, s.halted, n)
+    State { position: n, ..s }
 }

@@ -21,13 +21,6 @@ pub struct StepResult {
     pub state: State,
 }
 
-// A count of cycles as a wider number.
-fn widen(n: u8) -> u32
-    ensures { (result ≡ n) × (result ≤ 255) }
-{
-    n as u32
-}
-
 // A step that is made.
 fn made(cycles: u32, words: usize, state: State) -> StepResult
     ensures { result ≡ record { verdict = None; cycles = cycles; words = words; state = state } }
@@ -94,7 +87,7 @@ pub fn step(
     let opcode = slices::load(opcodes, pc);
     let argument = slices::load(arguments, pc);
     let e = execution::execute(opcode, argument, s, regs, keys, ram, stack);
-    let n = widen(e.cycles);
+    let n = u32::from(e.cycles);
     let action = e.action;
     let next = e.state;
     match action {
