@@ -2,16 +2,9 @@
 #![tactic(auto)]
 
 use rules::SHEET_SIZE;
-use slices::BANK_SIZE;
+use slices::{BANK_SIZE, set};
 use std::io;
 use std::io::Print;
-
-// A byte is put at a place; past the end nothing changes.
-fn put(s: &mut [u8], at: usize, v: u8) {
-    if at < s.len() {
-        s[at] = v;
-    }
-}
 
 // Writes admission's answer to a listing.
 fn print_answer(
@@ -35,8 +28,8 @@ fn print_answer(
 // Each address is described in routine 0, at a depth that rises from 0.
 fn describe(sheet: &mut [u8]) {
     for a in 0..BANK_SIZE {
-        put(sheet, 2 * a, a as u8);
-        put(sheet, 2 * a + 1, 0x80);
+        set(sheet, 2 * a, a as u8);
+        set(sheet, 2 * a + 1, 0x80);
     }
 }
 
@@ -46,7 +39,7 @@ fn pushes(out: &impl Print, name: &[u8], last: u8) -> io::Result<()> {
     let arguments = [0u8; BANK_SIZE];
     let mut sheet = [0u8; SHEET_SIZE];
     describe(&mut sheet);
-    put(&mut opcodes, 255, last);
+    set(&mut opcodes, 255, last);
     print_answer(out, name, &opcodes, &arguments, &sheet, &[0, 255])
 }
 
@@ -55,11 +48,11 @@ fn growing_loop(out: &impl Print) -> io::Result<()> {
     let mut opcodes = [0u8; BANK_SIZE];
     let arguments = [0u8; BANK_SIZE];
     let mut sheet = [0u8; SHEET_SIZE];
-    put(&mut opcodes, 0, 0x5C);
-    put(&mut opcodes, 1, 0xA0);
-    put(&mut sheet, 1, 0x80);
-    put(&mut sheet, 2, 1);
-    put(&mut sheet, 3, 0x80);
+    set(&mut opcodes, 0, 0x5C);
+    set(&mut opcodes, 1, 0xA0);
+    set(&mut sheet, 1, 0x80);
+    set(&mut sheet, 2, 1);
+    set(&mut sheet, 3, 0x80);
     print_answer(
         out,
         b"push, then jmp 0, need 1",
@@ -76,11 +69,11 @@ fn calls_itself(need: u8) -> u32 {
     let arguments = [0u8; BANK_SIZE];
     let mut sheet = [0u8; SHEET_SIZE];
     let mut list = [0u8; 2];
-    put(&mut opcodes, 0, 0xA8);
-    put(&mut opcodes, 1, 0xF8);
-    put(&mut sheet, 1, 0x80);
-    put(&mut sheet, 3, 0x80);
-    put(&mut list, 1, need);
+    set(&mut opcodes, 0, 0xA8);
+    set(&mut opcodes, 1, 0xF8);
+    set(&mut sheet, 1, 0x80);
+    set(&mut sheet, 3, 0x80);
+    set(&mut list, 1, need);
     admission::cesca_admit(&opcodes, &arguments, &sheet, &list)
 }
 
