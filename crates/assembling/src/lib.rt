@@ -10,7 +10,7 @@ ghost use Rattle.assembling.specs.internal.Looking.{refused, Looked};
 use labels::BadLine;
 use slices::BANK_SIZE;
 
-// An answer: 0, 0 and the number of words; or the number of a refusal, its line or 0, and 0.
+// An answer, as C reads it: 0, 0 and the number of words; or the number of a refusal, its line or 0, and 0.
 #[repr(C)]
 #[derive(Clone, Copy)]
 pub struct Assembled(pub u8, pub usize, pub usize);

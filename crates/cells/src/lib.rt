@@ -13,7 +13,7 @@ use drawings::Cell;
 // beginning: the entry of its own routine, with no need yet.
 pub const REACHED: u32 = 33554432;
 
-// The word of an address; 0 if it is not reached.
+// The word of an address; 0 if it is not reached. It gives `get_or` the name that a drawing knows it by.
 pub fn word_of(cells: &[u32], a: u8) -> u32
     ensures { result ≡ get_or cells.now a 0 }
 {

@@ -6,7 +6,8 @@ ghost use Rattle.drawings.specs.Drawn.{lent, outcome, DrawnAs};
 use rules::{MAX_LIST_SIZE, SHEET_SIZE};
 use sheets::sizes::buffer_sizes;
 
-// The answer to banks to be drawn: 0 and the number of routines, or the number of a refusal and 0.
+// The answer to banks to be drawn, as C reads it: 0 and the number of routines, or the number of a
+// refusal and 0.
 #[repr(C)]
 #[derive(Clone, Copy)]
 pub struct Drawing(pub u8, pub u8);

@@ -88,7 +88,7 @@ pub fn encode(instr: Instr) -> Result<(u8, u8), EncodeError>
     join(rows::layout(instr))
 }
 
-// 01's number of an answer, 0 where nothing is refused.
+// 01's number of an answer, 0 where nothing is refused, as C reads it.
 pub fn number(answer: Result<(u8, u8), EncodeError>) -> u8
     ensures { result ≡ number_of answer }
 {

@@ -142,7 +142,7 @@ impl From<Result<(u8, u8), EncodeError>> for Encoding {
     }
 }
 
-// The number of V.
+// The number of V. Neither it nor a byte is a type of this crate, so this is no `From`.
 pub fn overflow_number(v: Overflow) -> u8
     ensures { result ≡ overflow_number v }
 {
@@ -162,7 +162,7 @@ impl From<Computed> for ComputedNumbers {
     }
 }
 
-// The number of an effect on V.
+// The number of an effect on V: no `From`, likewise.
 pub fn effect_number(e: OverflowEffect) -> u8
     ensures { result ≡ effect_number e }
 {
@@ -173,7 +173,8 @@ pub fn effect_number(e: OverflowEffect) -> u8
     }
 }
 
-// The numbers of an instruction's cycles n, its class, and whether it writes the roll.
+// The numbers of an instruction's cycles n, its class, and whether it writes the roll. A `From` of a
+// tuple of the three would be no plainer.
 pub fn fact_numbers(n: u8, class: Class, roll: bool) -> FactNumbers
     ensures { result ≡ fact_numbers n class roll }
 {

@@ -22,7 +22,7 @@ pub fn write_hex(out: &mut [u8], at: usize, x: u8) -> usize
     put(out, next, hex_digit(x % 16))
 }
 
-// The digits of a number, counted.
+// The digits of a number, counted: a `while`, since what is left of the number alone tells how many.
 fn digit_count(n: u32) -> usize
     ensures { result ≡ length (decimal n) }
 {

@@ -13,8 +13,8 @@ use numbers::Fields;
 // The room for a text.
 pub const TEXT_WIDTH: usize = 23;
 
-// The answer to an instruction to be printed: 0, the text's length, and the text with spaces behind it; or the
-// number of the refusal, 0 and spaces.
+// The answer to an instruction to be printed, as C reads it: 0, the text's length, and the text with spaces
+// behind it; or the number of the refusal, 0 and spaces.
 #[repr(C)]
 #[derive(Clone, Copy)]
 pub struct Printed(pub u8, pub u8, pub [u8; 23]);

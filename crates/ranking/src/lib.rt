@@ -18,7 +18,7 @@ pub struct AddressCount {
     pub count: u32,
 }
 
-// How often an address executed; 0 past the counters' end.
+// How often an address executed; 0 past the counters' end. It gives `get_or` the name of its definition.
 pub fn count_at(counters: &[u32], a: usize) -> u32
     ensures { result ≡ get_or counters.now a 0 }
 {

@@ -71,7 +71,8 @@ fn is_hopeless(opcodes: &[u8], arguments: &[u8], cells: &[u32]) -> bool
 }
 
 // The cells are settled; or false, and then nothing can be admitted, as most banks of no use show
-// after the first pass. Passes go upwards and downwards in turn, since calls lead to either side.
+// after the first pass. Passes go upwards and downwards in turn, since calls lead to either side; a
+// `while`, since nobody knows how many it takes.
 pub fn settle(opcodes: &[u8], arguments: &[u8], cells: &mut [u32]) -> bool
     requires { cells.old ≡ start }
     ensures { Settles (banks opcodes.now arguments.now) cells.new result }

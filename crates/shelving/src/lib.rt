@@ -38,7 +38,7 @@ struct Parts<'a> {
 }
 
 impl Parts<'_> {
-    // The sheet word of an address.
+    // The sheet word of an address, as a number; `sheets::word_at` gives its parts.
     #[tactic(auto, unfolding(rules::specs::Sheet::word))]
     fn word_at(&self, a: usize) -> u16
         requires { a < 256 }
