@@ -76,7 +76,7 @@ fn branch_ground(
 fn is_entry(list: &[u8], routine: u8, entry: u8) -> bool
     ensures { result ≡ nat_lt routine (length list.now / 2) && (slice_index list.now (2 * routine) == entry) }
 {
-    ((routine as usize) < list.len() / 2) & (entry_of(list, routine) == entry)
+    (usize::from(routine) < list.len() / 2) & (entry_of(list, routine) == entry)
 }
 
 // 9 to 16 at a call. Entries have their own routine's word (7), so the target's word names the

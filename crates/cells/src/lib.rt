@@ -91,6 +91,6 @@ pub fn meet(cells: &mut [u32], at: u8, want: Cell) -> bool
     if satisfies(w, want) {
         return false;
     }
-    cells[at as usize] = merge(w, want);
+    cells[usize::from(at)] = merge(w, want);
     true
 }

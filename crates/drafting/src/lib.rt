@@ -1,4 +1,6 @@
 // The sheet and the list that settled cells give.
+// A byte is a place by `as` here: the loops' proofs compute through it, where `usize::from` asks for an
+// equation at each turn.
 #![tactic(auto)]
 
 ghost use Rattle.std.specs.Prelude.{◌+◌, ◌*◌, ◌≤◌, ◌<◌, ◌≡◌, length, replicate};

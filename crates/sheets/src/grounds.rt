@@ -90,7 +90,7 @@ pub fn routine_ground(sheet: &[u8], routines: usize, a: u8) -> Result<(), Ground
     ensures { answer_of result ≡ cond (bad_routine_word routines (word_of sheet.now a)) (5 + 256 * a) 0 }
 {
     let w = word_at(sheet, a);
-    let unlisted = w.described & (routines <= (w.routine as usize));
+    let unlisted = w.described & (routines <= usize::from(w.routine));
     refuse_if(unlisted, Rule::Routine, a)
 }
 

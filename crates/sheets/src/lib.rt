@@ -37,7 +37,7 @@ fn parts(n: u16) -> Word
 pub fn word_at(sheet: &[u8], a: u8) -> Word
     ensures { result ≡ word_of sheet.now a }
 {
-    let i = 2 * (a as usize);
+    let i = 2 * usize::from(a);
     let low = u16::from(byte_at(sheet, i));
     let high = u16::from(byte_at(sheet, i + 1));
     parts(low + 256 * high)
@@ -47,12 +47,12 @@ pub fn word_at(sheet: &[u8], a: u8) -> Word
 pub fn entry_of(list: &[u8], routine: u8) -> u8
     ensures { result ≡ get_or list.now (2 * routine) 0 }
 {
-    byte_at(list, 2 * (routine as usize))
+    byte_at(list, 2 * usize::from(routine))
 }
 
 // The need of a routine: the most bytes that it and its callees put above its return address.
 pub fn need_of(list: &[u8], routine: u8) -> u8
     ensures { result ≡ get_or list.now (2 * routine + 1) 0 }
 {
-    byte_at(list, 2 * (routine as usize) + 1)
+    byte_at(list, 2 * usize::from(routine) + 1)
 }

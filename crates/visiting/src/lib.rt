@@ -20,7 +20,7 @@ use std::num::wrapping_add_u8;
 fn call_room(depth: u8, need: u8) -> u8
     ensures { result ≡ capped (depth + 1 + need) }
 {
-    let sum = (depth as u32) + 1 + (need as u32);
+    let sum = u32::from(depth) + 1 + u32::from(need);
     if sum < 256 { sum as u8 } else { 255 }
 }
 

@@ -9,4 +9,4 @@ pub returns-then-satisfies : goal.returns-then-satisfies
 returns-then-satisfies c = let a = c.args in met_already a.cells.now a.at a.want c.requires (ap (λ (w : ℕ). has w a.want) (sym c.word_of-w.ensures) ∙ sym c.satisfies.ensures.0 ∙ c.if-satisfies.true)
 
 pub returns : goal.returns
-returns c = let a = c.args in rw (c.merge.ensures, c.word_of-w.ensures) (met_now a.cells.now a.at a.want c.requires c.ranges.at.fits c.satisfies.ensures.1 (ap (λ (w : ℕ). has w a.want) (sym c.word_of-w.ensures) ∙ sym c.satisfies.ensures.0 ∙ c.if-satisfies.false))
+returns c = let a = c.args in rw (c.from.ensures, c.merge.ensures, c.word_of-w.ensures) (met_now a.cells.now a.at a.want c.requires c.ranges.at.fits c.satisfies.ensures.1 (ap (λ (w : ℕ). has w a.want) (sym c.word_of-w.ensures) ∙ sym c.satisfies.ensures.0 ∙ c.if-satisfies.false))
