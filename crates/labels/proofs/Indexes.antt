@@ -1,22 +1,23 @@
 -- The index of labels: no line before an entry's gives a name of that number. A line that is passed over gives no name whose number has no entry
 -- yet, since it would have been entered.
 -- Assumes nothing.
-use Prim.Native.Nat.{ℕ, zero, suc, ◌+◌, ◌*◌, ◌-◌, ◌%◌, ◌≤◌, ◌<◌, min}
+use Prim.Native.Nat.{ℕ, zero, suc, ◌+◌, ◌*◌, ◌%◌, ◌≤◌, ◌<◌}
 use native.Mathlib.Omega.{arith}
 use native.Mathlib.Numerals.{add-one}
 use mathlib.Core.Path.{◌≡◌, refl, sym, ap, ◌∙◌}
 use mathlib.Core.Bool.{Bool, true, false, cond, ◌&&◌}
 use mathlib.Core.List.{List, [], ◌∷◌}
 use lib.Dec.{eqb}
-use lib.ListN.{length, get_or, take, drop, set, replicate, drop_of_length-le, length-set, length-replicate, get_or-replicate}
+use lib.ListN.{length, get_or, drop, set, replicate, drop_of_length-le, length-set, length-replicate, get_or-replicate}
 use lib.Seq.{get_or-set_same, get_or-set_other, drop-cons}
 use borrow.Author.Tests.{eq-eqb, ne_eqb, eqb-true, eqb-false}
 use Rattle.slices.proofs.Bools.{by_test, both}
 use Rattle.slices.proofs.Lookup.{zeros}
 use Rattle.labels.specs.Lines.{lines_of, label_size, label_of, is_labelled}
 use Rattle.labels.specs.Labels.{same, given_at}
-use Rattle.labels.specs.internal.Search.{cut_of, slots, hash_from, hash_of, is_new, starts_after, numbers_after, NewIndex, Index}
-use Rattle.labels.proofs.Cuts.{AtLine, line_starts, line_goes, lines_after, lines_over}
+use Rattle.labels.specs.internal.Search.{slots, hash_from, hash_of, is_new, starts_after, numbers_after, NewIndex, Index}
+use Rattle.labels.proofs.Cuts.{AtLine, line_starts, line_goes, lines_over}
+use Rattle.labels.specs.internal.Turns.{Turn}
 use Rattle.labels.proofs.Names.{same_equal, given_labelled}
 use Rattle.labels.proofs.Searches.{given_one, given_none, Looking}
 
@@ -98,11 +99,7 @@ set_entry l i a h r b =
     (λ e. let q = eqb-true h i e in rw (e, q) (get_or-set_same l i a 0 (omega arith)))
     (λ e. rw e (get_or-set_other l i h a 0 (eqb-false h i e)))
 
-module _ {t : List ℕ} {at k e : ℕ} {starts numbers : List ℕ} (r : Indexing t at k starts numbers) (h : at < length t)
-    (f : e ≡ at + cut_of (drop at t)) (g : e ≤ length t) where
-  abbrev l : List ℕ
-  l = take (e - at) (drop at t)
-
+module _ {t l : List ℕ} {at k a : ℕ} {starts numbers : List ℕ} (r : Indexing t at k starts numbers) (n : Turn t at l a) where
   abbrev slot : ℕ
   slot = hash_of (label_of l)
 
@@ -132,9 +129,9 @@ module _ {t : List ℕ} {at k e : ℕ} {starts numbers : List ℕ} (r : Indexing
       (λ b. other (λ c _. no (sym c ∙ b)) (starts_entry false (sym b) i) (numbers_entry false (sym b) i))
 
   -- a line that gives a name has an entry for it afterwards
-  module _ {a : ℕ} (m : a ≡ min (e + 1) (length t)) (name : List ℕ) (some : 0 < length name) where
+  module _ (name : List ℕ) (some : 0 < length name) where
     passed : same (label_of l) name ≡ false → given_at name (lines_of (drop at t)) k ≡ given_at name (lines_of (drop a t)) (k + 1)
-    passed z = ap (λ (ls : List (List ℕ)). given_at name ls k) (lines_after t at e a h f g m) ∙ (given_one name l (lines_of (drop a t)) k ∙ rw z)
+    passed z = ap (λ (ls : List (List ℕ)). given_at name ls k) n.first ∙ (given_one name l (lines_of (drop a t)) k ∙ rw z)
 
     new_name : label_of l ≡ name → get_or numbers (hash_of name) 0 ≡ 0 → is_new l numbers ≡ true
     new_name q z =
@@ -148,49 +145,49 @@ module _ {t : List ℕ} {at k e : ℕ} {starts numbers : List ℕ} (r : Indexing
         by (this b i p q) =
             let z : get_or numbers (hash_of name) 0 ≡ 0 = ap (λ (x : ℕ). get_or numbers x 0) i ∙ eqb-true _ _ (both (is_labelled l) _ b).1 in
             rw (p, q, z, ne_eqb k 0 (omega (arith, r.line.from)))
-        by (other n p q) =
+        by (other o p q) =
             rw (p, q)
             (by_test (eqb (get_or numbers (hash_of name) 0) 0)
             (λ z. rw z (passed (by_test (same (label_of l) name)
             (λ s. let w = same_equal (label_of l) name s in
-            absurd (n (new_name w (eqb-true _ _ z)) (sym (ap hash_of w))))
+            absurd (o (new_name w (eqb-true _ _ z)) (sym (ap hash_of w))))
             (λ s. s))))
             (λ z. rw z))
 
-  pub index_goes : {a : ℕ} → a ≡ min (e + 1) (length t) → Indexing t a (k + 1) (starts_after l at numbers starts) (numbers_after l k numbers)
-  index_goes {a} m =
+  pub index_goes : Indexing t a (k + 1) (starts_after l at numbers starts) (numbers_after l k numbers)
+  index_goes =
       record {
-        line = line_goes r.line h f g m;
+        line = line_goes r.line n;
         start_room = by_test (is_new l numbers) (λ b. rw b (length-set starts slot at ∙ r.start_room)) (λ b. rw b r.start_room);
         number_room = by_test (is_new l numbers) (λ b. rw b (length-set numbers slot k ∙ r.number_room)) (λ b. rw b r.number_room);
         within = within_still;
         few = few_still;
         unset = unset_still;
-        skips = λ name some. r.skips name some ∙ entered_still m name some;
+        skips = λ name some. r.skips name some ∙ entered_still name some;
       }
     where
       within_still : (i : ℕ) → get_or (starts_after l at numbers starts) i 0 ≤ length t
       within_still i = by (entry i)
         where
           by : Entry i → get_or (starts_after l at numbers starts) i 0 ≤ length t
-          by (this b s p q) = rw p (omega arith)
-          by (other n p q) = rw p (r.within i)
+          by (this b s p q) = rw p (omega (arith, n.later, n.within))
+          by (other o p q) = rw p (r.within i)
 
       few_still : (i : ℕ) → get_or (numbers_after l k numbers) i 0 ≤ get_or (starts_after l at numbers starts) i 0 + 1
       few_still i = by (entry i)
         where
           by : Entry i → get_or (numbers_after l k numbers) i 0 ≤ get_or (starts_after l at numbers starts) i 0 + 1
           by (this b s p q) = rw (p, q) r.line.few
-          by (other n p q) = rw (p, q) (r.few i)
+          by (other o p q) = rw (p, q) (r.few i)
 
       unset_still : (i : ℕ) → i < slots → get_or (numbers_after l k numbers) i 0 ≡ 0 → get_or (starts_after l at numbers starts) i 0 ≡ length t
       unset_still i low z = by (entry i)
         where
           by : Entry i → get_or (starts_after l at numbers starts) i 0 ≡ length t
           by (this b s p q) = absurd (omega (arith, sym q ∙ z, r.line.from))
-          by (other n p q) = p ∙ r.unset i low (sym q ∙ z)
+          by (other o p q) = p ∙ r.unset i low (sym q ∙ z)
 
-pub index_ends : {t : List ℕ} {at k : ℕ} {starts numbers : List ℕ} → Indexing t at k starts numbers → length t ≤ at → Index t starts numbers
+pub index_ends : {t : List ℕ} {at k : ℕ} {starts numbers : List ℕ} → Indexing t at k starts numbers → lines_of (drop at t) ≡ [] → Index t starts numbers
 index_ends {t} {at} {k} {starts} {numbers} r h =
     record {
       start_room = r.start_room;
@@ -203,7 +200,7 @@ index_ends {t} {at} {k} {starts} {numbers} r h =
     at_end : (name : List ℕ) → entered name t at k starts numbers ≡ given_at name (lines_of (drop (get_or starts (hash_of name) 0) t)) (get_or numbers (hash_of name) 0)
     at_end name =
         by_test (eqb (get_or numbers (hash_of name) 0) 0)
-        (λ z. rw z (ap (λ (ls : List (List ℕ)). given_at name ls k) (lines_over t at h) ∙ given_none name k
+        (λ z. rw z (ap (λ (ls : List (List ℕ)). given_at name ls k) h ∙ given_none name k
         ∙ sym (ap (λ (ls : List (List ℕ)). given_at name ls (get_or numbers (hash_of name) 0))
         (lines_over t (get_or starts (hash_of name) 0) (omega (arith, r.unset (hash_of name) (hash_low name) (eqb-true _ _ z))))
         ∙ given_none name (get_or numbers (hash_of name) 0))))

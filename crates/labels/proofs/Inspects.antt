@@ -1,6 +1,6 @@
 -- The look at every line: the first bad one, the words of the lines before, and the addresses noted.
 -- Assumes nothing.
-use Prim.Native.Nat.{ℕ, zero, suc, ◌+◌, ◌-◌, ◌%◌, ◌≤◌, ◌<◌, min}
+use Prim.Native.Nat.{ℕ, zero, suc, ◌+◌, ◌-◌, ◌%◌, ◌≤◌, ◌<◌}
 use native.Mathlib.Omega.{arith}
 use mathlib.Core.Path.{◌≡◌, refl, sym, ap, ◌∙◌}
 use mathlib.Core.Bool.{Bool}
@@ -12,8 +12,9 @@ use lib.Seq.{get_or-set_same, get_or-set_other, take_all}
 use borrow.Author.Tests.{eq-eqb, ne_eqb, eqb-true, eqb-false}
 use Rattle.slices.proofs.Bools.{by_test}
 use Rattle.labels.specs.Lines.{lines_of, size_of}
-use Rattle.labels.specs.internal.Search.{cut_of, more, count_from, Addresses, IsLine, Inspected}
-use Rattle.labels.proofs.Cuts.{this_line, lines_over}
+use Rattle.labels.specs.internal.Search.{more, count_from, Addresses, IsLine, Inspected}
+use Rattle.labels.proofs.Cuts.{this_line}
+use Rattle.labels.specs.internal.Turns.{Turn}
 use Rattle.labels.proofs.Searches.{Searching, search_starts, search_hits, search_goes, search_ends}
 
 abbrev is_bad : List ℕ → ℕ → Bool
@@ -36,9 +37,9 @@ inspect_starts e =
     record { search = search_starts; counted = unfold count_from in refl; known = record { room = e; held = λ j h l. absurd (omega arith) } }
 
 module _ {t addresses : List ℕ} {at k words : ℕ} (r : Inspecting t at k words addresses) where
-  pub inspect_ends : length t ≤ at → Inspected t (Ok words) addresses
+  pub inspect_ends : lines_of (drop at t) ≡ [] → Inspected t (Ok words) addresses
   inspect_ends h =
-      let none : drop (k - 1) (lines_of t) ≡ [] = r.search.line.rest ∙ lines_over t at h in
+      let none : drop (k - 1) (lines_of t) ≡ [] = r.search.line.rest ∙ h in
       let all : length (lines_of t) ≤ k - 1 = omega (arith, ap length none, length-drop (k - 1) (lines_of t)) in
       record {
         good = sym (search_ends r.search h);
@@ -46,22 +47,21 @@ module _ {t addresses : List ℕ} {at k words : ℕ} (r : Inspecting t at k word
         known = record { room = r.known.room; held = λ j a b. r.known.held j (omega arith) b };
       }
 
-  module _ {e : ℕ} (h : at < length t) (f : e ≡ at + cut_of (drop at t)) (g : e ≤ length t) where
-    pub inspect_hits : (b : List ℕ) → 0 ≡ size_of (take (e - at) (drop at t)) → Inspected t (Err (record { number = k })) b
-    inspect_hits b z =
-        (search_hits r.search h f g (eq-eqb (size_of (take (e - at) (drop at t))) 0 (sym z)), omega (arith, r.search.line.from))
+  module _ {l : List ℕ} {a : ℕ} (n : Turn t at l a) where
+    pub inspect_hits : (b : List ℕ) → 0 ≡ size_of l → Inspected t (Err (record { number = k })) b
+    inspect_hits b z = (search_hits r.search n (eq-eqb (size_of l) 0 (sym z)), omega (arith, r.search.line.from))
 
-    pub inspect_goes : {a m s : ℕ} {b : List ℕ} → s ≡ size_of (take (e - at) (drop at t)) → (size_of (take (e - at) (drop at t)) ≡ 0 → ⊥) → a ≡ min (e + 1) (length t) → m ≡ more words s → b ≡ set addresses (k - 1) (words % 256)
+    pub inspect_goes : {m s : ℕ} {b : List ℕ} → s ≡ size_of l → (size_of l ≡ 0 → ⊥) → m ≡ more words s → b ≡ set addresses (k - 1) (words % 256)
         → Inspecting t a (k + 1) m b
-    inspect_goes {a} {m} {s} {b} q z p o u =
+    inspect_goes {m} {s} {b} q z o u =
         record {
-          search = search_goes r.search h f g (ne_eqb (size_of (take (e - at) (drop at t))) 0 z) p;
+          search = search_goes r.search n (ne_eqb (size_of l) 0 z);
           counted = rw one (o ∙ counted_more);
           known = record { room = rw u (length-set addresses (k - 1) (words % 256) ∙ r.known.room); held = rw u held_more };
         }
       where
-        this : IsLine t k (take (e - at) (drop at t))
-        this = this_line r.search.line h f g
+        this : IsLine t k l
+        this = this_line r.search.line n
 
         one : k + 1 - 1 ≡ suc (k - 1)
         one = omega (arith, this.from)

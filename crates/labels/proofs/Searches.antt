@@ -1,7 +1,7 @@
 -- Searches over the lines: for the first that passes a test, and for the first that gives a name; and that a line repeats a label where the first
 -- line that gives it is another.
 -- Assumes nothing.
-use Prim.Native.Nat.{ℕ, zero, suc, ◌+◌, ◌-◌, ◌≤◌, ◌<◌, min}
+use Prim.Native.Nat.{ℕ, zero, suc, ◌+◌, ◌-◌, ◌≤◌, ◌<◌}
 use native.Mathlib.Omega.{arith}
 use mathlib.Core.Path.{◌≡◌, refl, sym, ap, ◌∙◌}
 use mathlib.Core.Bool.{Bool, true, false, cond, not}
@@ -14,9 +14,10 @@ use Rattle.std.specs.Prelude.{Option, Some, None}
 use Rattle.reading.specs.declared.Fit.{Fit}
 use Rattle.labels.specs.Lines.{lines_of, label_size, label_of, line_of, name_in, name_of}
 use Rattle.labels.specs.Labels.{same, given_at, repeats, misses}
-use Rattle.labels.specs.internal.Search.{cut_of, first_line, IsLine}
+use Rattle.labels.specs.internal.Search.{first_line, IsLine}
+use Rattle.labels.specs.internal.Turns.{Turn}
 use Rattle.labels.proofs.Names.{label_length}
-use Rattle.labels.proofs.Cuts.{AtLine, line_starts, line_goes, lines_after, lines_over}
+use Rattle.labels.proofs.Cuts.{AtLine, line_starts, line_goes}
 
 first_one : (f : List ℕ → ℕ → Bool) (l : List ℕ) (ls : List (List ℕ)) (k : ℕ) → first_line f (l ∷ ls) k ≡ cond (f l k) k (first_line f ls (k + 1))
 unfolding first_line
@@ -35,16 +36,15 @@ pub search_starts : {f : List ℕ → ℕ → Bool} {t : List ℕ} → Searching
 search_starts = record { line = line_starts; left = refl }
 
 module _ {f : List ℕ → ℕ → Bool} {t : List ℕ} {at k : ℕ} (r : Searching f t at k) where
-  pub search_ends : length t ≤ at → 0 ≡ first_line f (lines_of t) 1
-  search_ends h = sym (r.left ∙ ap (λ (ls : List (List ℕ)). first_line f ls k) (lines_over t at h) ∙ first_none f k)
+  pub search_ends : lines_of (drop at t) ≡ [] → 0 ≡ first_line f (lines_of t) 1
+  search_ends h = sym (r.left ∙ ap (λ (ls : List (List ℕ)). first_line f ls k) h ∙ first_none f k)
 
-  module _ {e : ℕ} (h : at < length t) (q : e ≡ at + cut_of (drop at t)) (g : e ≤ length t) where
-    pub search_hits : f (take (e - at) (drop at t)) k ≡ true → k ≡ first_line f (lines_of t) 1
-    search_hits z = sym (r.left ∙ (rw (lines_after t at e (min (e + 1) (length t)) h q g refl) (first_one f (take (e - at) (drop at t)) _ k ∙ rw z)))
+  module _ {l : List ℕ} {a : ℕ} (n : Turn t at l a) where
+    pub search_hits : f l k ≡ true → k ≡ first_line f (lines_of t) 1
+    search_hits z = sym (r.left ∙ (rw n.first (first_one f l _ k ∙ rw z)))
 
-    pub search_goes : {a : ℕ} → f (take (e - at) (drop at t)) k ≡ false → a ≡ min (e + 1) (length t) → Searching f t a (k + 1)
-    search_goes {a} z p =
-        record { line = line_goes r.line h q g p; left = r.left ∙ (rw (lines_after t at e a h q g p) (first_one f (take (e - at) (drop at t)) _ k ∙ rw z)) }
+    pub search_goes : f l k ≡ false → Searching f t a (k + 1)
+    search_goes z = record { line = line_goes r.line n; left = r.left ∙ (rw n.first (first_one f l _ k ∙ rw z)) }
 
 pub given_one : (n l : List ℕ) (ls : List (List ℕ)) (k : ℕ) → given_at n (l ∷ ls) k ≡ cond (same (label_of l) n) k (given_at n ls (k + 1))
 unfolding given_at
@@ -61,20 +61,16 @@ pub record Looking (n t : List ℕ) (at k : ℕ) : Type 0 where
   pub left : given_at n (lines_of t) 1 ≡ given_at n (lines_of (drop at t)) k
 
 module _ {n t : List ℕ} {at k : ℕ} (r : Looking n t at k) where
-  pub look_ends : length t ≤ at → 0 ≡ given_at n (lines_of t) 1
-  look_ends h = sym (r.left ∙ ap (λ (ls : List (List ℕ)). given_at n ls k) (lines_over t at h) ∙ given_none n k)
+  pub look_ends : lines_of (drop at t) ≡ [] → 0 ≡ given_at n (lines_of t) 1
+  look_ends h = sym (r.left ∙ ap (λ (ls : List (List ℕ)). given_at n ls k) h ∙ given_none n k)
 
-  module _ {e : ℕ} (h : at < length t) (q : e ≡ at + cut_of (drop at t)) (g : e ≤ length t) where
-    pub look_hits : same (label_of (take (e - at) (drop at t))) n ≡ true → k ≡ given_at n (lines_of t) 1
-    look_hits z = sym (r.left ∙ (rw (lines_after t at e (min (e + 1) (length t)) h q g refl) (given_one n (take (e - at) (drop at t)) _ k ∙ rw z)))
+  module _ {l : List ℕ} {a : ℕ} (m : Turn t at l a) where
+    pub look_hits : same (label_of l) n ≡ true → k ≡ given_at n (lines_of t) 1
+    look_hits z = sym (r.left ∙ (rw m.first (given_one n l _ k ∙ rw z)))
 
-    pub look_goes : {a : ℕ} → same (label_of (take (e - at) (drop at t))) n ≡ false → a ≡ min (e + 1) (length t) → Looking n t a (k + 1)
-    look_goes {a} z p =
-        record {
-          within = omega arith;
-          few = omega (arith, r.few);
-          left = r.left ∙ (rw (lines_after t at e a h q g p) (given_one n (take (e - at) (drop at t)) _ k ∙ rw z));
-        }
+    pub look_goes : same (label_of l) n ≡ false → Looking n t a (k + 1)
+    look_goes z =
+        record { within = m.within; few = omega (arith, r.few, m.later); left = r.left ∙ (rw m.first (given_one n l _ k ∙ rw z)) }
 
 -- the first of n lines that gives a name, counted from j, is before line j + n
 given_before : (name : List ℕ) (ls : List (List ℕ)) (n j : ℕ) → 1 ≤ j → given_at name (take n ls) j < j + n

@@ -95,6 +95,65 @@ pub fn next_line(end: usize, n: usize) -> usize
     if end < n { end + 1 } else { n }
 }
 
+// A line of a text: its number, the place where it starts, and its bytes without the line feed.
+#[derive(Clone, Copy)]
+pub struct Line<'a> {
+    pub number: usize,
+    pub start: usize,
+    pub bytes: &'a [u8],
+}
+
+// The lines of a text from a place on, where the line of a number starts.
+#[derive(Drop)]
+pub struct Lines<'a> {
+    pub text: &'a [u8],
+    pub at: usize,
+    pub number: usize,
+}
+
+impl<'a> Lines<'a> {
+    // All lines of a text, which count from 1.
+    pub fn of(text: &'a [u8]) -> Lines<'a>
+        ensures { (result.text.now ≡ text.now) × (result.at ≡ 0) × (result.number ≡ 1) }
+    {
+        Lines {
+            text,
+            at: 0,
+            number: 1,
+        }
+    }
+}
+
+impl<'a> Iterator for Lines<'a> {
+    ghost use Rattle.std.specs.Iterator.{at_most};
+    ghost use Rattle.labels.specs.internal.Turns.{InText, GivesLine};
+
+    type Item = Line<'a>;
+
+    ghost can_next = { λ s. InText s };
+
+    ghost next_gives = { GivesLine };
+
+    ghost remaining = { λ s. at_most (length s.text.now - s.at) };
+
+    fn next(&mut self) -> Option<Line<'a>> {
+        let n = self.text.len();
+        if n <= self.at {
+            return None;
+        }
+        let start = self.at;
+        let end = line_end(self.text, start);
+        let number = self.number;
+        self.at = next_line(end, n);
+        self.number = number + 1;
+        Some(Line {
+            number,
+            start,
+            bytes: &self.text[start..end],
+        })
+    }
+}
+
 // A count that stops above 256.
 fn count_on(n: usize, size: usize) -> usize
     requires { size ≤ 3 }
@@ -112,19 +171,15 @@ pub fn inspect(table: &[u8], text: &[u8], addresses: &mut [u8]) -> Result<usize,
     requires { (table.now ≡ table_bytes) × (length addresses.old ≡ 256) }
     ensures { Inspected text.now result addresses.new }
 {
-    let n = text.len();
-    let mut at: usize = 0;
-    let mut k: usize = 1;
     let mut words: usize = 0;
-    while at < n {
-        let end = line_end(text, at);
-        let Some(size) = line_size(table, &text[at..end]) else {
-            return Err(BadLine { number: k });
+    for line in Lines::of(text) {
+        let Some(size) = line_size(table, line.bytes) else {
+            return Err(BadLine {
+                number: line.number,
+            });
         };
-        slices::set(addresses, k - 1, (words % 256) as u8);
+        slices::set(addresses, line.number - 1, (words % 256) as u8);
         words = count_on(words, size);
-        k += 1;
-        at = next_line(end, n);
     }
     Ok(words)
 }
@@ -182,14 +237,8 @@ pub fn index(text: &[u8], starts: &mut [usize], numbers: &mut [usize])
     requires { NewIndex text.now starts.old numbers.old }
     ensures { Index text.now starts.new numbers.new }
 {
-    let n = text.len();
-    let mut at: usize = 0;
-    let mut k: usize = 1;
-    while at < n {
-        let end = line_end(text, at);
-        enter(&text[at..end], at, k, starts, numbers);
-        k += 1;
-        at = next_line(end, n);
+    for line in Lines::of(text) {
+        enter(line.bytes, line.start, line.number, starts, numbers);
     }
 }
 
@@ -205,17 +254,16 @@ pub fn given_at(text: &[u8], name: &[u8], starts: &[usize], numbers: &[usize]) -
     requires { (0 < length name.now) × Index text.now starts.now numbers.now }
     ensures { result ≡ unless_zero (given_at name.now (lines_of text.now) 1) }
 {
-    let n = text.len();
     let h = hash(name);
-    let mut at = starts[h];
-    let mut k = numbers[h];
-    while at < n {
-        let end = line_end(text, at);
-        if gives(&text[at..end], name) {
-            return line_number(k);
+    let left = Lines {
+        text,
+        at: starts[h],
+        number: numbers[h],
+    };
+    for line in left {
+        if gives(line.bytes, name) {
+            return line_number(line.number);
         }
-        k += 1;
-        at = next_line(end, n);
     }
     None
 }
@@ -254,18 +302,12 @@ pub fn label_fault(table: &[u8], text: &[u8], starts: &[usize], numbers: &[usize
     requires { (table.now ≡ table_bytes) × Index text.now starts.now numbers.now }
     ensures { result ≡ unless_zero (bad_label text.now) }
 {
-    let n = text.len();
-    let mut at: usize = 0;
-    let mut k: usize = 1;
-    while at < n {
-        let end = line_end(text, at);
-        if is_repeat(text, &text[at..end], k, starts, numbers)
-            | is_missing(table, text, &text[at..end], starts, numbers)
+    for line in Lines::of(text) {
+        if is_repeat(text, line.bytes, line.number, starts, numbers)
+            | is_missing(table, text, line.bytes, starts, numbers)
         {
-            return Some(k);
+            return Some(line.number);
         }
-        k += 1;
-        at = next_line(end, n);
     }
     None
 }

@@ -10,6 +10,7 @@ ghost use Rattle.words.specs.Program.{opcode_of, argument_of, target_by, program
 ghost use Rattle.words.specs.internal.Storing.{stored_in, Ready, LineStored};
 
 use isa::Instr;
+use labels::Lines;
 use spelling::Places;
 
 // The two bytes of an instruction.
@@ -123,23 +124,11 @@ pub fn store_lines(
     requires { (table.now ≡ table_bytes) × Ready text.now addresses.now starts.now numbers.now }
     ensures { (opcodes.new ≡ stored_in opcode_of (program_of text.now) 0 opcodes.old) × (arguments.new ≡ stored_in argument_of (program_of text.now) 0 arguments.old) }
 {
-    let n = text.len();
-    let mut from: usize = 0;
     let mut at: usize = 0;
-    while from < n {
-        let end = labels::line_end(text, from);
+    for line in Lines::of(text) {
         at = store_line(
-            table,
-            text,
-            &text[from..end],
-            at,
-            addresses,
-            starts,
-            numbers,
-            opcodes,
-            arguments,
+            table, text, line.bytes, at, addresses, starts, numbers, opcodes, arguments,
         );
-        from = labels::next_line(end, n);
     }
 }
 

@@ -1,10 +1,7 @@
 -- A line a turn, from the entry of the name's number on: none before it gives the name.
-use Prim.Native.Nat.{◌-◌}
+use mathlib.Core.Path.{◌≡◌}
 use Rattle.labels.proofs.Searches.{Looking}
 use Rattle.labels.proofs.given_at.Given as goal
 
-abbrev pub invariant-loop-at : goal.invariant-loop-at
-invariant-loop-at l = Looking l.name l.text l.at l.k
-
-abbrev pub decreases-loop-at : goal.decreases-loop-at
-decreases-loop-at l = l.n - l.at
+abbrev pub invariant-loop-line : goal.invariant-loop-line
+invariant-loop-line l = (l.line-iterator.text.now ≡ l.text) × Looking l.name l.text l.line-iterator.at l.line-iterator.number

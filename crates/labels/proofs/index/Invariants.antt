@@ -1,10 +1,7 @@
 -- A line a turn is entered.
-use Prim.Native.Nat.{◌-◌}
+use mathlib.Core.Path.{◌≡◌}
 use Rattle.labels.proofs.Indexes.{Indexing}
 use Rattle.labels.proofs.index.Given as goal
 
-abbrev pub invariant-loop-at : goal.invariant-loop-at
-invariant-loop-at l = Indexing l.text l.at l.k l.starts l.numbers
-
-abbrev pub decreases-loop-at : goal.decreases-loop-at
-decreases-loop-at l = l.n - l.at
+abbrev pub invariant-loop-line : goal.invariant-loop-line
+invariant-loop-line l = (l.line-iterator.text.now ≡ l.text) × Indexing l.text l.line-iterator.at l.line-iterator.number l.starts l.numbers

@@ -1,10 +1,7 @@
 -- A line a turn: all before it are good, their words are counted, and their addresses are noted.
-use Prim.Native.Nat.{◌-◌}
+use mathlib.Core.Path.{◌≡◌}
 use Rattle.labels.proofs.Inspects.{Inspecting}
 use Rattle.labels.proofs.inspect.Given as goal
 
-abbrev pub invariant-loop-at : goal.invariant-loop-at
-invariant-loop-at l = Inspecting l.text l.at l.k l.words l.addresses
-
-abbrev pub decreases-loop-at : goal.decreases-loop-at
-decreases-loop-at l = l.n - l.at
+abbrev pub invariant-loop-line : goal.invariant-loop-line
+invariant-loop-line l = (l.line-iterator.text.now ≡ l.text) × Inspecting l.text l.line-iterator.at l.line-iterator.number l.words l.addresses
