@@ -10,15 +10,14 @@ ghost use Rattle.busy_runs.specs.Busy.{records, busy_outcome, page_size, busy_re
 ghost use Rattle.busy.specs.Exported.{BusyNumbered};
 
 use busy_runs::PAGE_SIZE;
-use model::{Ran, Refusal, State};
+use model::{Refusal, Report, State};
 use ranking::ADDRESSES;
 use run_numbers::{RunNumbers, StateNumbers};
 
-// A busy run's answer and state, and the lines of its page.
+// A busy run's report, and the lines of its page.
 #[derive(Clone, Copy)]
 pub struct BusyReport {
-    pub answer: Result<Ran, Refusal>,
-    pub state: State,
+    pub run: Report,
     pub lines: usize,
 }
 
@@ -62,30 +61,26 @@ fn run_recorded(
     start: State,
 ) -> BusyReport
     requires { (budget ≤ max_budget) × (length counters.old ≡ bank_size) × (page_size ≤ length page.old) }
-    ensures { BusyRan (call opcodes.now arguments.now keys.now budget start ram.old stack.old roll.old) (records counters.old page.old) (busy_outcome (outcome result.answer result.state ram.new stack.new roll.new) result.lines (records counters.new page.new)) }
+    ensures { BusyRan (call opcodes.now arguments.now keys.now budget start ram.old stack.old roll.old) (records counters.old page.old) (busy_outcome (outcome result.run.answer result.run.state ram.new stack.new roll.new) result.lines (records counters.new page.new)) }
 {
     counters.fill(0);
     let mut log = [0u8; 0];
-    let report = observation::observe(
+    let run = observation::observe(
         opcodes, arguments, keys, ram, stack, roll, counters, &mut log, budget, start,
     );
     let lines = paging::write_page(opcodes, arguments, counters, page);
-    let answer = report.answer;
-    let state = report.state;
-    BusyReport {
-        answer: answer,
-        state: state,
-        lines: lines,
-    }
+    BusyReport { run, lines }
 }
 
 // A refusal, with the state as it was and no line.
 fn refused(refusal: Refusal, s: State) -> BusyReport
-    ensures { result ≡ record { answer = Err refusal; state = s; lines = 0 } }
+    ensures { result ≡ record { run = record { answer = Err refusal; state = s }; lines = 0 } }
 {
     BusyReport {
-        answer: Err(refusal),
-        state: s,
+        run: Report {
+            answer: Err(refusal),
+            state: s,
+        },
         lines: 0,
     }
 }
@@ -103,7 +98,7 @@ fn run_busy(
     budget: u32,
     start: State,
 ) -> BusyReport
-    ensures { BusyPromise (call opcodes.now arguments.now keys.now budget start ram.old stack.old roll.old) (records counters.old page.old) (busy_outcome (outcome result.answer result.state ram.new stack.new roll.new) result.lines (records counters.new page.new)) }
+    ensures { BusyPromise (call opcodes.now arguments.now keys.now budget start ram.old stack.old roll.old) (records counters.old page.old) (busy_outcome (outcome result.run.answer result.run.state ram.new stack.new roll.new) result.lines (records counters.new page.new)) }
 {
     let check = refusal(
         opcodes, arguments, keys, ram, stack, roll, counters, page, budget, start,
@@ -131,12 +126,9 @@ pub fn cesca_run_busy(
 ) -> BusyNumbers
     ensures { BusyNumbered (call opcodes.now arguments.now keys.now budget (state_of start) ram.old stack.old roll.old) (records counters.old page.old) result ram.new stack.new roll.new counters.new page.new }
 {
-    let s = run_numbers::state_of(start);
+    let s = State::from(start);
     let report = run_busy(
         opcodes, arguments, keys, ram, stack, roll, counters, page, budget, s,
     );
-    let answer = report.answer;
-    let reached = report.state;
-    let numbers = run_numbers::run_numbers(answer, reached);
-    BusyNumbers(numbers, report.lines)
+    BusyNumbers(RunNumbers::from(report.run), report.lines)
 }

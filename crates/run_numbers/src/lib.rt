@@ -7,7 +7,7 @@ ghost use Rattle.model.specs.Run.{refusal_number};
 ghost use Rattle.run_numbers.specs.Runs.{overflow_of, state_of, state_numbers, stop_number, run_numbers, time_numbers};
 
 use alu::{Flags, Overflow};
-use model::{Ran, Refusal, State, Stop, TimeError};
+use model::{Refusal, Report, State, Stop, TimeError};
 use numbers::overflow_number;
 
 // A state: R0 to R3, PC, SP, output register, Z, C, S, V, halted, position.
@@ -55,42 +55,50 @@ fn overflow_of(n: u8) -> Overflow
 }
 
 // The state of these numbers.
-pub fn state_of(x: StateNumbers) -> State
-    ensures { result ≡ state_of x }
-{
-    let regs = x.0;
-    let v = overflow_of(x.7);
-    let flags = Flags {
-        z: x.4,
-        c: x.5,
-        s: x.6,
-        v: v,
-    };
-    State {
-        regs: regs,
-        pc: x.1,
-        sp: x.2,
-        out: x.3,
-        flags: flags,
-        halted: x.8,
-        position: x.9,
+impl From<StateNumbers> for State {
+    ghost from_gives = { λ x s. s ≡ state_of x };
+
+    fn from(x: StateNumbers) -> State {
+        let regs = x.0;
+        State {
+            regs,
+            pc: x.1,
+            sp: x.2,
+            out: x.3,
+            flags: Flags {
+                z: x.4,
+                c: x.5,
+                s: x.6,
+                v: overflow_of(x.7),
+            },
+            halted: x.8,
+            position: x.9,
+        }
     }
 }
 
 // The numbers of a state.
-pub fn state_numbers(s: State) -> StateNumbers
-    ensures { result ≡ state_numbers s }
-{
-    let regs = s.regs;
-    let f = s.flags;
-    let v = f.v;
-    let n = overflow_number(v);
-    StateNumbers(
-        regs, s.pc, s.sp, s.out, f.z, f.c, f.s, n, s.halted, s.position,
-    )
+impl From<State> for StateNumbers {
+    ghost from_gives = { λ s x. x ≡ state_numbers s };
+
+    fn from(s: State) -> StateNumbers {
+        let f = s.flags;
+        StateNumbers(
+            s.regs,
+            s.pc,
+            s.sp,
+            s.out,
+            f.z,
+            f.c,
+            f.s,
+            overflow_number(f.v),
+            s.halted,
+            s.position,
+        )
+    }
 }
 
-// The number of a stop.
+// The number of a stop. No From<Stop> for u8: both types are of other crates.
 pub fn stop_number(x: Stop) -> u8
     ensures { result ≡ stop_number x }
 {
@@ -102,7 +110,7 @@ pub fn stop_number(x: Stop) -> u8
     }
 }
 
-// 01's number of a refused run.
+// 01's number of a refused run. No From, as with a stop.
 fn refusal_number(x: Refusal) -> u8
     ensures { result ≡ refusal_number x }
 {
@@ -114,23 +122,27 @@ fn refusal_number(x: Refusal) -> u8
 }
 
 // The numbers of a run's report.
-pub fn run_numbers(answer: Result<Ran, Refusal>, s: State) -> RunNumbers
-    ensures { result ≡ run_numbers answer s }
-{
-    let state = state_numbers(s);
-    match answer {
-        Err(x) => RunNumbers(refusal_number(x), 0, 0, 0, 0, state),
-        Ok(r) => RunNumbers(0, stop_number(r.stop), r.steps, r.cycles, r.words, state),
+impl From<Report> for RunNumbers {
+    ghost from_gives = { λ report x. x ≡ run_numbers report.answer report.state };
+
+    fn from(report: Report) -> RunNumbers {
+        let state = StateNumbers::from(report.state);
+        match report.answer {
+            Err(x) => RunNumbers(refusal_number(x), 0, 0, 0, 0, state),
+            Ok(r) => RunNumbers(0, stop_number(r.stop), r.steps, r.cycles, r.words, state),
+        }
     }
 }
 
 // The numbers of a running time.
-pub fn time_numbers(t: Result<u32, TimeError>) -> TimeNumbers
-    ensures { result ≡ time_numbers t }
-{
-    match t {
-        Ok(n) => TimeNumbers(0, n),
-        Err(TimeError::BadClock) => TimeNumbers(20, 0),
-        Err(TimeError::BadCycles) => TimeNumbers(21, 0),
+impl From<Result<u32, TimeError>> for TimeNumbers {
+    ghost from_gives = { λ t x. x ≡ time_numbers t };
+
+    fn from(t: Result<u32, TimeError>) -> TimeNumbers {
+        match t {
+            Ok(n) => TimeNumbers(0, n),
+            Err(TimeError::BadClock) => TimeNumbers(20, 0),
+            Err(TimeError::BadCycles) => TimeNumbers(21, 0),
+        }
     }
 }

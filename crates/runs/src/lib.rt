@@ -5,6 +5,7 @@
 ghost use Rattle.model.specs.Run.{call};
 ghost use Rattle.run_numbers.specs.Runs.{state_of, RunNumbered, TimeNumbered};
 
+use model::State;
 use run_numbers::{RunNumbers, StateNumbers, TimeNumbers};
 
 // A run's report, or the number of a refusal that leaves everything lent as it was.
@@ -20,16 +21,13 @@ pub fn cesca_run(
 ) -> RunNumbers
     ensures { RunNumbered (call opcodes.now arguments.now keys.now budget (state_of start) ram.old stack.old roll.old) result ram.new stack.new roll.new }
 {
-    let s = run_numbers::state_of(start);
-    let report = machine::run(opcodes, arguments, keys, ram, stack, roll, budget, s);
-    let answer = report.answer;
-    let reached = report.state;
-    run_numbers::run_numbers(answer, reached)
+    let s = State::from(start);
+    RunNumbers::from(machine::run(opcodes, arguments, keys, ram, stack, roll, budget, s))
 }
 
 // The tenths of a second that so many cycles take at a clock in Hz, or the number of a refusal.
 pub fn cesca_running_time(cycles: u32, clock: u32) -> TimeNumbers
     ensures { TimeNumbered cycles clock result }
 {
-    run_numbers::time_numbers(timing::running_time(cycles, clock))
+    TimeNumbers::from(timing::running_time(cycles, clock))
 }

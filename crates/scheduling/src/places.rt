@@ -9,15 +9,14 @@ ghost use Rattle.scheduling.specs.internal.Places.{with_numbers, EightNumbers};
 
 use super::SeatNumbers;
 use model::State;
-use run_numbers::{StateNumbers, state_numbers, state_of};
+use run_numbers::StateNumbers;
 
 // The state of seat i. Only a function that takes the array by itself can tell its length.
 pub fn state_at(states: [StateNumbers; 8], i: usize) -> State
     requires { i < max_seats }
     ensures { (result ≡ get_or (mapped state_of states) i start_state) × (length states ≡ max_seats) }
 {
-    let x = states[i];
-    state_of(x)
+    State::from(states[i])
 }
 
 // The numbers of the seats, put together: states and roll positions, as many as there are seats.
@@ -32,9 +31,8 @@ pub fn with_seat(seats: SeatNumbers, i: usize, s: State, words: usize) -> SeatNu
     requires { i < max_seats }
     ensures { result ≡ with_numbers seats i s words }
 {
-    let x = state_numbers(s);
     let mut states = seats.0;
-    states[i] = x;
+    states[i] = StateNumbers::from(s);
     let mut positions = seats.1;
     positions[i] = words;
     SeatNumbers(states, positions)

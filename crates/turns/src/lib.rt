@@ -28,7 +28,7 @@ pub struct TurnNumbers(
     pub SeatNumbers,
 );
 
-// 02's number of a refused turn.
+// 02's number of a refused turn. No From<TurnRefusal> for u8: both types are of other crates.
 fn refusal_number(refusal: TurnRefusal) -> u8
     ensures { result ≡ refusal_number refusal }
 {

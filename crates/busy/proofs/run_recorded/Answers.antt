@@ -8,5 +8,5 @@ pub returns : goal.returns
 returns c =
     let a = c.args in
     made (call a.opcodes.now a.arguments.now a.keys.now a.budget a.start a.ram.now a.stack.now a.roll.now) c.requires.0
-    c.observe-report.ensures.addresses (records a.counters.now a.page.now) _ _ _ _ c.requires.2 c.observe-report.ensures.ran
-    c.observe-report.ensures.counted c.write_page-lines.ensures
+    c.observe-run.ensures.addresses (records a.counters.now a.page.now) _ _ _ _ c.requires.2 c.observe-run.ensures.ran
+    c.observe-run.ensures.counted c.write_page-lines.ensures
