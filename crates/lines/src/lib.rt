@@ -31,7 +31,7 @@ pub fn refused_line(out: &mut [u8], at: usize, number: u32, place: u32) -> usize
 pub fn admitted_line(out: &mut [u8], at: usize, need: u8) -> usize
     ensures { Written admitted_room (admitted_line need) (page out.old at) (page out.new result) }
 {
-    let after_need = write_numbered(out, at, b"admitted need ", need as u32);
+    let after_need = write_numbered(out, at, b"admitted need ", u32::from(need));
     put(out, after_need, b'\n')
 }
 
@@ -62,7 +62,7 @@ pub fn run_line(
     let after_stop = write_stop(out, at, stop);
     let after_steps = write_numbered(out, after_stop, b" steps ", steps);
     let after_cycles = write_numbered(out, after_steps, b" cycles ", cycles);
-    let after_output = write_numbered(out, after_cycles, b" out ", output as u32);
-    let after_sp = write_numbered(out, after_output, b" sp ", sp as u32);
+    let after_output = write_numbered(out, after_cycles, b" out ", u32::from(output));
+    let after_sp = write_numbered(out, after_output, b" sp ", u32::from(sp));
     put(out, after_sp, b'\n')
 }

@@ -48,7 +48,7 @@ fn instruction(opcode: u8, argument: u8) -> Instr
 {
     let forms = FORMS;
     Instr::from(Fields(
-        forms[(opcode >> 2) as usize],
+        forms[usize::from(opcode >> 2)],
         low_pair(opcode >> 2),
         low_pair(opcode),
         argument >> 4,
@@ -76,7 +76,7 @@ fn write_line(
 ) -> usize
     ensures { (page out.new result ≡ write_of (line_of (program opcodes.now arguments.now) counters.now a) (page out.old at)) × Narrow (program opcodes.now arguments.now) a }
 {
-    let count = count_at(counters, a as usize);
+    let count = count_at(counters, usize::from(a));
     let text = text_columns(load(opcodes, a), load(arguments, a));
     let mut next = write_hex(out, at, a);
     next = put(out, next, b' ');

@@ -24,7 +24,7 @@ fn write_register(out: &mut [u8], at: usize, r: u8) -> usize
     ensures { page out.new result ≡ write_of (register r) (page out.old at) }
 {
     let next = pages::put(out, at, b'R');
-    pages::write_decimal(out, next, r as u32)
+    pages::write_decimal(out, next, u32::from(r))
 }
 
 // What stands for a byte of a spelling is written from a place on; the place after it.
@@ -41,7 +41,7 @@ fn write_shown(out: &mut [u8], at: usize, x: Fields, c: u8) -> usize
         return write_register(out, at, x.4);
     }
     if (c == b'#') | (c == b'@') {
-        return pages::write_decimal(out, at, x.5 as u32);
+        return pages::write_decimal(out, at, u32::from(x.5));
     }
     pages::put(out, at, c)
 }
@@ -51,15 +51,15 @@ fn row(form: u8, f: u8) -> usize
     ensures { result ≡ row_with form f }
 {
     if form == 0 {
-        return f as usize;
+        return usize::from(f);
     }
     if form == 1 {
         return 16;
     }
     if form == 2 {
-        return 17 + (f as usize);
+        return 17 + usize::from(f);
     }
-    30 + (form as usize)
+    30 + usize::from(form)
 }
 
 // The spelling in row k is written from a place on, filled with an instruction's fields; the place after it.

@@ -17,7 +17,8 @@ use spelling::Places;
 #[derive(Clone, Copy)]
 struct Word(u8, u8);
 
-// The two bytes of a form, 0 where the encoder refuses it.
+// The two bytes of a form, 0 where the encoder refuses it: the definitions of an opcode and an argument say
+// 0 there, and no caller asks which it was, so an Option would be unpacked to the same 0.
 fn bytes_of(instr: Instr) -> Word
     ensures { result ≡ (opcode_of instr, argument_of instr) }
 {
@@ -57,7 +58,8 @@ fn store_row(k: usize, p: Places, to: u8, at: usize, opcodes: &mut [u8], argumen
     store(expansion::third_form(k, to), at + 2, opcodes, arguments);
 }
 
-// The address of a label: the words before the line that gives it.
+// The address of a label: the words before the line that gives it. 0 where none does, as its definition says;
+// a text that uses a missing label is refused before, so an Option would be unpacked to the same 0.
 fn address(text: &[u8], name: &[u8], addresses: &[u8], starts: &[usize], numbers: &[usize]) -> u8
     requires { (0 < length name.now) × Ready text.now addresses.now starts.now numbers.now }
     ensures { result ≡ address_of name.now (lines_of text.now) }

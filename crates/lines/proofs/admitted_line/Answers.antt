@@ -5,4 +5,4 @@ use Rattle.lines.proofs.admitted_line.Goals as goal
 
 pub returns : goal.returns
 unfolding admitted_line
-returns c = byte_written 10 c.write_numbered-after_need.ensures c.put.ensures
+returns c = byte_written 10 (rw c.from.ensures at c.write_numbered-after_need.ensures) c.put.ensures

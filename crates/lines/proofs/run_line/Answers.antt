@@ -12,6 +12,6 @@ returns c =
     (texts_written
     (texts_written c.write_stop-after_stop.ensures c.write_numbered-after_steps.ensures)
     c.write_numbered-after_cycles.ensures)
-    c.write_numbered-after_output.ensures)
-    c.write_numbered-after_sp.ensures)
+    (rw c.from.ensures at c.write_numbered-after_output.ensures))
+    (rw c.from-2.ensures at c.write_numbered-after_sp.ensures))
     c.put.ensures

@@ -8,4 +8,4 @@ pub returns : goal.returns
 unfolding write_of
 returns c =
     let a = c.args in
-    c.write_decimal.ensures.text.left ∙ ap (write_of (decimal a.r)) c.put-next.ensures
+    (rw c.from.ensures at c.write_decimal.ensures.text.left) ∙ ap (write_of (decimal a.r)) c.put-next.ensures

@@ -18,7 +18,7 @@ returns-then-c-eq90 c = simp (ne_eqb _ _ c.if-c-eq88.false, ne_eqb _ _ c.if-c-eq
 
 pub returns-then-c : goal.returns-then-c
 unfolding shown_at write_of
-returns-then-c c = simp (ne_eqb _ _ c.if-c-eq88.false, ne_eqb _ _ c.if-c-eq89.false, ne_eqb _ _ c.if-c-eq90.false, c.if-c.true) c.write_decimal.ensures.text.left
+returns-then-c c = simp (ne_eqb _ _ c.if-c-eq88.false, ne_eqb _ _ c.if-c-eq89.false, ne_eqb _ _ c.if-c-eq90.false, c.if-c.true) (rw c.from.ensures at c.write_decimal.ensures.text.left)
 
 pub returns : goal.returns
 unfolding shown_at write_of
