@@ -1,5 +1,4 @@
 use borrow.Author.Tests.{lt-ltb}
-use Prim.Native.Nat.{◌-◌}
 use Rattle.spelling.specs.Spellings.{forms_of}
 use Rattle.expansion.proofs.first_form.Goals as goal
 
