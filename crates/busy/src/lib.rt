@@ -65,11 +65,14 @@ fn run_recorded(
 {
     counters.fill(0);
     let mut log = [0u8; 0];
-    let run = observation::observe(
+    let reached = observation::observe(
         opcodes, arguments, keys, ram, stack, roll, counters, &mut log, budget, start,
     );
     let lines = paging::write_page(opcodes, arguments, counters, page);
-    BusyReport { run, lines }
+    BusyReport {
+        run: Report::from(reached),
+        lines,
+    }
 }
 
 // A refusal, with the state as it was and no line.

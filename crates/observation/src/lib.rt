@@ -2,15 +2,15 @@
 // log as far as there is room.
 #![tactic(auto)]
 
-ghost use Rattle.std.specs.Prelude.{◌≡◌, ◌+◌, ◌<◌, ◌≤◌, get_or, set, replicate};
+ghost use Rattle.std.specs.Prelude.{◌≡◌, ◌+◌, ◌<◌, ◌≤◌, get_or, set, replicate, Ok};
 ghost use Rattle.slices.specs.Sizes.{bank_size};
 ghost use Rattle.pages.specs.Page.{page};
 ghost use Rattle.model.specs.Run.{outcome, max_budget};
 ghost use Rattle.model.specs.Step.{setting, machine_at};
 ghost use Rattle.observation.specs.internal.Observed.{Noted, Observed};
 
-use machine::{ended, last_stop};
-use model::{Report, State, Stop};
+use machine::{Reached, ended, last_stop};
+use model::{State, Stop};
 use pages::put;
 use states::to_registers;
 use stepping::step;
@@ -20,7 +20,7 @@ fn count(counters: &mut [u32], a: u8)
     requires { get_or counters.old a 0 < 4294967295 }
     ensures { (counters.new ≡ set counters.old a (get_or counters.old a 0 + 1)) × (a < bank_size) }
 {
-    let i = a as usize;
+    let i = usize::from(a);
     if i < counters.len() {
         counters[i] = counters[i] + 1;
     }
@@ -50,9 +50,9 @@ pub fn observe(
     log: &mut [u8],
     budget: u32,
     start: State,
-) -> Report
+) -> Reached
     requires { (budget ≤ max_budget) × (counters.old ≡ replicate bank_size 0) }
-    ensures { Observed (setting opcodes.now arguments.now keys.now) budget (machine_at start ram.old stack.old roll.old 0 0 0) log.old (outcome result.answer result.state ram.new stack.new roll.new) counters.new log.new }
+    ensures { Observed (setting opcodes.now arguments.now keys.now) budget (machine_at start ram.old stack.old roll.old 0 0 0) log.old (outcome (Ok result.ran) result.state ram.new stack.new roll.new) counters.new log.new }
 {
     if start.halted {
         return ended(Stop::Halted, 0, 0, 0, start);

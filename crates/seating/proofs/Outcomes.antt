@@ -15,7 +15,7 @@ use Rattle.slices.specs.Sizes.{bank_size}
 use Rattle.slices.proofs.Bools.{by_test}
 use Rattle.slices.proofs.Lookup.{length_mapped}
 use Rattle.model.specs.State.{start_state}
-use Rattle.model.specs.declared.Report.{Report}
+use Rattle.machine.specs.declared.Reached.{Reached}
 use Rattle.run_numbers.specs.Runs.{state_of}
 use Rattle.seats.specs.Room.{Room, max_seats, bank_at, bank_of, seat_of, with_seat, alone_of}
 use Rattle.seats.specs.Turn.{TurnCall, turn_call, TurnOutcome, turn_outcome, turn_fault, goes_in, seat_after, first_from, next_seat, ran_of, made_of, turn_by, turn_of}
@@ -141,9 +141,9 @@ module _ (n slice from : ℕ) (ops args keys ram stack rolls : List ℕ) (m : Se
       let o : turn_of call here ≡ turn_outcome (Ok None) here = turn_made call here s.accepts.no_fault ∙ ap (made_of call here) s.found in
       turned_as (turn_outcome (Ok None) here) r ram stack rolls o (rw e) (rw e) (rw e) (rw e) refl refl refl
 
-  pub ran_as : (i next : ℕ) (o : Report) (r : TurnReport) (ram' stack' rolls' : List ℕ) → Seeks n slice from here (Some i)
+  pub ran_as : (i next : ℕ) (o : Reached) (r : TurnReport) (ram' stack' rolls' : List ℕ) → Seeks n slice from here (Some i)
       → next ≡ seat_after n i
-      → (length x.0 ≡ max_seats) × SeatRan here i slice o ram' stack' rolls' → r ≡ report_by i next o.answer o.state x
+      → (length x.0 ≡ max_seats) × SeatRan here i slice o ram' stack' rolls' → r ≡ report_by i next o.ran o.state x
       → TurnedAs call here x r ram' stack' rolls'
   unfolding ran_of with_seat
   ran_as i next o r ram' stack' rolls' k q ran e =
@@ -156,10 +156,10 @@ module _ (n slice from : ℕ) (ops args keys ram stack rolls : List ℕ) (m : Se
       get_or-set_same (mapped state_of x.0) i d.state start_state (omega (arith, a.bounds.most_seats)) in
       let made : turn_of call here ≡ ran_of call here i = turn_made call here a.no_fault ∙ ap (made_of call here) k.found in
       turned_as (ran_of call here i) r ram' stack' rolls' made
-      (rw (e, s.answer, q))
-      (rw (e, s.answer, s.state, p))
-      (rw (e, s.answer, s.state) (state_put x.0 i d.state))
-      (rw (e, s.answer))
+      (rw (e, s.made, q))
+      (rw (e, s.made, s.state, p))
+      (rw (e, s.state) (state_put x.0 i d.state))
+      (rw (e, s.made))
       s.ram_left
       s.stack_left
       s.rolls_left

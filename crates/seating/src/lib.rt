@@ -10,8 +10,7 @@ ghost use Rattle.scheduling.specs.Numbers.{room_of};
 ghost use Rattle.seating.specs.Reports.{TurnedAs};
 ghost use Rattle.seating.specs.internal.SeatRuns.{seat_sought, SeatRan, report_by};
 
-use machine::run_steps;
-use model::Report;
+use machine::{Reached, run_steps};
 use scheduling::lengths::begin_of;
 use scheduling::places::{seat_after, state_at, with_seat};
 use scheduling::refusals::check_call;
@@ -61,7 +60,7 @@ fn run_seat(
     slice: u32,
     i: usize,
     seats: SeatNumbers,
-) -> Report
+) -> Reached
     requires seat_places { SeatPlaces (room_of opcodes.now arguments.now keys.now ram.old stack.old rolls.old lengths seats) i }
     requires i_lt_max_seats { (i < max_seats) × (slice ≤ max_slice) }
     ensures { (length seats.0 ≡ max_seats) × SeatRan (room_of opcodes.now arguments.now keys.now ram.old stack.old rolls.old lengths seats) i slice result ram.new stack.new rolls.new }
@@ -94,26 +93,21 @@ fn idle(answer: Result<Option<SeatTurn>, TurnRefusal>, seats: SeatNumbers) -> Tu
     TurnReport { answer, seats }
 }
 
-// The report of a turn in which seat i ran. `run_steps` refuses nothing, so the first arm is never
-// reached.
-fn seat_report(i: usize, next: usize, report: Report, seats: SeatNumbers) -> TurnReport
+// The report of a turn in which seat i ran.
+fn seat_report(i: usize, next: usize, reached: Reached, seats: SeatNumbers) -> TurnReport
     requires { i < max_seats }
-    ensures { result ≡ report_by i next report.answer report.state seats }
+    ensures { result ≡ report_by i next reached.ran reached.state seats }
 {
-    let answer = report.answer;
-    let reached = report.state;
-    match answer {
-        Err(_) => idle(Ok(None), seats),
-        Ok(r) => TurnReport {
-            answer: Ok(Some(SeatTurn {
-                seat: i,
-                next,
-                stop: r.stop,
-                steps: r.steps,
-                cycles: r.cycles,
-            })),
-            seats: with_seat(seats, i, reached, r.words),
-        },
+    let ran = reached.ran;
+    TurnReport {
+        answer: Ok(Some(SeatTurn {
+            seat: i,
+            next,
+            stop: ran.stop,
+            steps: ran.steps,
+            cycles: ran.cycles,
+        })),
+        seats: with_seat(seats, i, reached.state, ran.words),
     }
 }
 
@@ -141,10 +135,10 @@ pub fn turn(
         Ok(None) => idle(Ok(None), seats),
         Ok(Some(i)) => {
             let next = seat_after(n, i);
-            let report = run_seat(
+            let reached = run_seat(
                 opcodes, arguments, keys, ram, stack, rolls, lengths, slice, i, seats,
             );
-            seat_report(i, next, report, seats)
+            seat_report(i, next, reached, seats)
         }
     }
 }

@@ -19,4 +19,4 @@ pub returns-in-Err : goal.returns-in-Err
 returns-in-Err c = promised _ (Err _) _ (sym c.in-Err.is ∙ c.refusal-check.ensures) (rw c.refused.ensures)
 
 pub returns-in-Ok : goal.returns-in-Ok
-returns-in-Ok c = promised _ (Ok _) _ (sym c.in-Ok.is ∙ c.refusal-check.ensures) c.run_steps.ensures
+returns-in-Ok c = promised _ (Ok _) _ (sym c.in-Ok.is ∙ c.refusal-check.ensures) (rw c.from.ensures c.run_steps.ensures)

@@ -1,7 +1,7 @@
 -- The loop's invariant is that what is left of the run is the run from the start; each need is one of its laws.
 use mathlib.Core.Path.{◌≡◌, sym, ap}
 use mathlib.Core.List.{List}
-use Prim.Native.Nat.{ℕ, ◌-◌}
+use Prim.Native.Nat.{ℕ}
 use Rattle.std.specs.Prelude.{Result}
 use Rattle.model.specs.Run.{Outcome, outcome, reported}
 use Rattle.model.specs.declared.Ran.{Ran}

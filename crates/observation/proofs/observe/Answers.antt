@@ -1,6 +1,5 @@
 -- A run's own loop, with what is counted and noted beside it; each need is a law of the loop's invariant.
 use mathlib.Core.Path.{refl}
-use Prim.Native.Nat.{◌-◌}
 use Rattle.stepping.proofs.Attempts.{attempted}
 use Rattle.observation.proofs.ObservedLoop.{observing_starts, observing_goes, observing_stops, observing_halts, observing_ends}
 use Rattle.observation.proofs.observe.Goals as goal

@@ -13,12 +13,12 @@ found c = seeks _ _ _ _ _ (rw c.in-Ok-Some.field-0-is at c.in-Ok-Some.ensures)
 pub seat_after-next-requires : goal.seat_after-next-requires
 seat_after-next-requires c = is_seat (found (goal.at.seat_after-next-requires c).In-Ok-Some)
 
-pub run_seat-report-requires-clause-seat_places : goal.run_seat-report-requires-clause-seat_places
-run_seat-report-requires-clause-seat_places c = has_places (found (goal.at.run_seat-report-requires-clause-seat_places c).In-Ok-Some)
+pub run_seat-reached-requires-clause-seat_places : goal.run_seat-reached-requires-clause-seat_places
+run_seat-reached-requires-clause-seat_places c = has_places (found (goal.at.run_seat-reached-requires-clause-seat_places c).In-Ok-Some)
 
-pub run_seat-report-requires-clause-i_lt_max_seats : goal.run_seat-report-requires-clause-i_lt_max_seats
-run_seat-report-requires-clause-i_lt_max_seats c =
-    let s = found (goal.at.run_seat-report-requires-clause-i_lt_max_seats c).In-Ok-Some in
+pub run_seat-reached-requires-clause-i_lt_max_seats : goal.run_seat-reached-requires-clause-i_lt_max_seats
+run_seat-reached-requires-clause-i_lt_max_seats c =
+    let s = found (goal.at.run_seat-reached-requires-clause-i_lt_max_seats c).In-Ok-Some in
     (has_place s, s.accepts.bounds.most_steps)
 
 pub seat_report-requires : goal.seat_report-requires
@@ -32,4 +32,4 @@ returns-in-Ok-None c = none_as _ _ _ _ _ _ _ _ _ _ _ _ c.idle-in-Ok-None.ensures
 
 pub returns-in-Ok-Some : goal.returns-in-Ok-Some
 returns-in-Ok-Some c =
-    ran_as _ _ _ _ _ _ _ _ _ _ _ _ _ _ _ _ _ _ (found (goal.at.returns-in-Ok-Some c).In-Ok-Some) c.seat_after-next.ensures c.run_seat-report.ensures c.seat_report.ensures
+    ran_as _ _ _ _ _ _ _ _ _ _ _ _ _ _ _ _ _ _ (found (goal.at.returns-in-Ok-Some c).In-Ok-Some) c.seat_after-next.ensures c.run_seat-reached.ensures c.seat_report.ensures
