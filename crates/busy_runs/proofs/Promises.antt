@@ -11,7 +11,7 @@ use lib.ListN.{length, drop}
 use borrow.Author.Tests.{eqb-true, ltb-false}
 use Rattle.slices.specs.Lists.{total_of}
 use Rattle.slices.proofs.Bools.{by_test, neither}
-use Rattle.pages.specs.Page.{Page, page}
+use Rattle.pages.specs.Page.{Page}
 use Rattle.pages.proofs.Pages.{write_whole}
 use Rattle.model.specs.Run.{Call, Outcome, machine_of, reported, run_of, max_budget, refusal_of, answer_number}
 use Rattle.model.specs.declared.Refusal.{Refusal}
