@@ -2,7 +2,7 @@
 #![tactic(auto)]
 
 ghost use Rattle.std.specs.Prelude.{◌≡◌, ◌+◌, ◌*◌, cond, ◌/◌, false, ◌&&◌, [], length, ◌==◌, nat_lt, slice_index};
-ghost use Rattle.sheets.specs.internal.Grounds.{answer_of};
+ghost use Rattle.sheets.specs.Grounds.{answer_of};
 ghost use Rattle.isa.specs.declared.Class.TheVariants.{Next, Branch, Call};
 ghost use Rattle.isa.specs.declared.OverflowEffect.TheVariants.{Keeps};
 ghost use Rattle.rules.specs.Grounds.{address_checks};

@@ -5,7 +5,7 @@ use Rattle.std.specs.Result.{IsErrAnd}
 use Rattle.rules.specs.internal.Scans.{or_else}
 use Rattle.rules.proofs.Scanning.{or_hit, or_pass}
 use Rattle.sheets.specs.declared.grounds.Ground.{Ground}
-use Rattle.sheets.specs.internal.Grounds.{answer_of}
+use Rattle.sheets.specs.Grounds.{answer_of}
 use Rattle.sheets.proofs.Judged.{refused, kept, passed_on}
 
 pub stopped : (r : Result Unit Ground) (g : Ground) (n rest : ℕ) → answer_of (Err g) ≡ n → IsErrAnd r (λ (k : Ground). k ≡ g) → answer_of r ≡ or_else n rest

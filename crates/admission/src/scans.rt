@@ -7,7 +7,7 @@ ghost use Rattle.sheets.specs.internal.Tests.{bad_blank_word, bad_routine_word, 
 ghost use Rattle.sheets.specs.internal.Words.{word_of};
 ghost use Rattle.rules.specs.Sheet.{listing, routines};
 ghost use Rattle.rules.specs.internal.Scans.{scan_of};
-ghost use Rattle.sheets.specs.internal.Grounds.{answer_of};
+ghost use Rattle.sheets.specs.Grounds.{answer_of};
 ghost use Rattle.slices.specs.Checks.{Check, first_broken};
 ghost use Rattle.slices.specs.Sizes.{bank_size};
 ghost use Rattle.admission.specs.internal.Stages.{Judges, scans_of, stages_of};

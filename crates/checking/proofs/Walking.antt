@@ -1,16 +1,29 @@
 -- The two loops of the judges: what is left, judged from here, gives the answer of the whole.
 -- Assumes nothing.
 use Prim.Native.Nat.{ℕ, ◌+◌, ◌≤◌, ◌<◌}
-use mathlib.Core.Path.{refl}
+use mathlib.Core.Path.{◌≡◌, refl}
 use mathlib.Core.Bool.{Bool, false, ◌&&◌}
 use mathlib.Core.List.{List, [], ◌∷◌}
 use lib.ListN.{drop}
 use lib.Dec.{eqb}
-use Rattle.groups.specs.Fields.{got, refused, field_in, numbers_in}
-use Rattle.groups.specs.internal.Places.{ReadsAs}
+use Rattle.std.specs.Prelude.{Result, Ok}
+use Rattle.groups.specs.declared.Refusal.{Refusal}
+use Rattle.groups.specs.Fields.{Read, got, refused, field_in, numbers_in}
+use Rattle.groups.specs.internal.Places.{read_by, place_of, ReadsAs}
 use Rattle.groups.proofs.Rows.{Rows, rows_stop, rows_go, rows_end, field_stops, one_field}
 use Rattle.files.specs.File.{byte_field, address_fields, byte_fields}
-use Rattle.checking.specs.internal.Judges.{ends, addresses_walk, past, bytes_end}
+use Rattle.checking.specs.internal.Judges.{end_by, end_place, ends, addresses_walk, past, bytes_end}
+
+-- ---- an answer, by its case
+
+module _ (file : List ℕ) (at : ℕ) where
+  pub walk_on : {meant : Read Bool} {r : Result (Bool × ℕ) Refusal} {next : ℕ} {b : Bool} → ReadsAs file at meant (read_by file r) (place_of r) → r ≡ Ok (b, next)
+      → ReadsAs file at meant (got b (drop next file)) next
+  walk_on h e = rw e at h
+
+  pub end_met : {meant : Read ℕ} {r : Result ℕ Refusal} {next : ℕ} → ReadsAs file at meant (end_by file r) (end_place r) → r ≡ Ok next
+      → ReadsAs file at meant (got 0 (drop next file)) next
+  end_met h e = rw e at h
 
 -- ---- the addresses: rows of three fields
 

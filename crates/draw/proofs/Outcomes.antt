@@ -27,7 +27,7 @@ list_fits c e z l = (sized c (sym e ∙ z)).1 ∙ sym l
 pub size_refused : (c : Lent) (n : ℕ) → n ≡ size_fault c → (n ≡ 0 → ⊥) → DrawnAs c (refused n c)
 size_refused c n e h = rw e (promised (bad_size (λ z. h (e ∙ z))))
 
-pub none_drawn : (c : Lent) {s l : List ℕ} {n : ℕ} {r : Option ℕ} → n ≡ size_fault c → n ≡ 0 → Judged c.program s l r → r ≡ None → DrawnAs c (refused 27 c)
+pub none_drawn : (c : Lent) {s l : List ℕ} {n : ℕ} {d r : Option ℕ} → n ≡ size_fault c → n ≡ 0 → Judged c.program s l d r → r ≡ None → DrawnAs c (refused 27 c)
 none_drawn c e z j q = promised (none_admitted (sym e ∙ z) (j.refuses q))
 
 pub all_drawn :

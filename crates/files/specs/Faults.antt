@@ -2,7 +2,7 @@
 -- Assumes nothing.
 use Rattle.std.specs.Prelude.{ℕ, Result, Ok, Err}
 use Rattle.groups.specs.Faults.{fault_number}
-use Rattle.sheets.specs.internal.Grounds.{rule_number}
+use Rattle.sheets.specs.Grounds.{rule_number}
 use Rattle.files.specs.declared.ShelvingFault.{ShelvingFault}
 use Rattle.files.specs.declared.ShelvingFault.TheVariants as shelving
 use Rattle.files.specs.declared.OpeningFault.{OpeningFault}

@@ -13,7 +13,7 @@ use borrow.Author.Tests.{ltb-true, ltb-false, lt-ltb, le-ltb, eqb-true, eq-eqb, 
 use Rattle.std.specs.Prelude.{Some, None, Result, Ok, Err}
 use Rattle.slices.proofs.Bools.{by_test, both, neither}
 use Rattle.groups.specs.Faults.{fault_number}
-use Rattle.groups.specs.Fields.{refused, Field, field_in}
+use Rattle.groups.specs.Fields.{Read, got, refused, Field, field_in}
 use Rattle.groups.specs.Groups.{some, none, number_in}
 use Rattle.groups.specs.internal.Places.{last_of, value_in, EndsAt, read_by, place_of, ReadsAs}
 use Rattle.groups.specs.declared.FileFault.{FileFault}
@@ -240,3 +240,13 @@ not_padded at last b t l e = let z : ◌≡◌ {A = Bool} true false = (rw (lt-l
 
 pub padded : (at last b : ℕ) → ltb 0 (last - at) && eqb b 0 ≡ true → (at < last) × (b ≡ 0)
 padded at last b t = let u = both (ltb 0 (last - at)) (eqb b 0) t in (omega (arith, ltb-true 0 (last - at) u.0), eqb-true b 0 u.1)
+
+-- ---- an answer, by its case
+
+module _ (file : List ℕ) (at : ℕ) {V : Type 0} {meant : Read V} {r : Result (V × ℕ) Refusal} where
+  pub value_read : {v : V} {next : ℕ} → ReadsAs file at meant (read_by file r) (place_of r) → r ≡ Ok (v, next) → ReadsAs file at meant (got v (drop next file)) next
+  value_read h e = rw e at h
+
+  pub refusal_read : {f : Refusal} → ReadsAs file at meant (read_by file r) (place_of r) → r ≡ Err f
+      → ReadsAs file at meant (refused (fault_number f.fault) (drop f.at file)) f.at
+  refusal_read h e = rw e at h

@@ -7,7 +7,7 @@ use mathlib.Core.List.{List, ◌++◌}
 use mathlib.Core.Bool.{Bool, false}
 use lib.ListN.{length, set, replicate}
 use lib.Seq.{take_at, take-take}
-use Rattle.std.specs.Prelude.{None, Some}
+use Rattle.std.specs.Prelude.{Option, None, Some}
 use Rattle.model.specs.Step.{Program}
 use Rattle.rules.specs.Grounds.{admit_of}
 use Rattle.rules.specs.Sheet.{routines}
@@ -28,17 +28,17 @@ unfolding start packed
 first_words = refl
 
 pub not_settled : {p : Program} {ws s l : List ℕ} {r : Bool} → Settles p ws r → r ≡ false → Drafted p s l None
-not_settled r e = record { none = λ _. r.none e; some = λ n q. absurd cc }
+not_settled r e = record { none = λ _. r.none e; empty = λ z. absurd cc; some = λ n q. absurd cc }
 
 pub too_many : {p : Program} {ws s l : List ℕ} {n : ℕ} → Settled p ws → n ≡ rank ws 256 → 64 < n → Drafted p s l None
-too_many {p} {ws} v e h = record { none = λ _. theorem.too_many p ws v (omega arith); some = λ n q. absurd cc }
+too_many {p} {ws} v e h = record { none = λ _. theorem.too_many p ws v (omega arith); empty = λ z. absurd cc; some = λ n q. absurd cc }
 
 pub drafted :
     {p : Program} {ws s l : List ℕ} {n : ℕ} → Settled p ws → n ≡ rank ws 256 → n ≤ 64 → s ≡ sheet_of ws → l ≡ padded 128 (list_of ws)
     → Drafted p s l (Some n)
 drafted {p} {ws} {s} {l} {n} v e h q w =
     let d : Draft p s l n = record { words = ws; settled = v; count = e; few = h; sheet_is = q; list_is = w } in
-    record { none = λ z. absurd cc; some = λ k z. let same : n ≡ k = cc in subst (Draft p s l) same d }
+    record { none = λ z. absurd cc; empty = λ z. let zero : n ≡ 0 = cc in theorem.no_routines p ws v (sym e ∙ zero); some = λ k z. let same : n ≡ k = cc in subst (Draft p s l) same d }
 
 -- ---- admission's answer
 
@@ -78,11 +78,11 @@ module _ (p : Program) (s l : List ℕ) (n : ℕ) (answer : ℕ) {part : List �
         few = f.few;
       }
 
-  pub judged : answer ≡ 0 → Judged p s l (Some n)
-  judged q = record { accepts = λ k z. let same : n ≡ k = cc in subst (Accepted p s l) same (accepted q); refuses = λ z. absurd cc }
+  pub judged : {d : Option ℕ} → d ≡ Some n → answer ≡ 0 → Judged p s l d (Some n)
+  judged w q = record { same = λ k z. w ∙ z; accepts = λ k z. let same : n ≡ k = cc in subst (Accepted p s l) same (accepted q); refuses = λ z. absurd cc }
 
-  pub turned_down : (answer ≡ 0 → ⊥) → Judged p s l None
-  turned_down h = record { accepts = λ k z. absurd cc; refuses = λ _. theorem.none_admitted p f.words f.settled (λ z. h (is_answer ∙ z)) }
+  pub turned_down : {d : Option ℕ} → (answer ≡ 0 → ⊥) → Judged p s l d None
+  turned_down h = record { same = λ k z. absurd cc; accepts = λ k z. absurd cc; refuses = λ _. theorem.none_admitted p f.words f.settled (λ z. h (is_answer ∙ z)) }
 
-pub nothing_judged : (p : Program) (s l : List ℕ) → Drafted p s l None → Judged p s l None
-nothing_judged p s l d = record { accepts = λ k z. absurd cc; refuses = λ _. d.none refl }
+pub nothing_judged : (p : Program) (s l : List ℕ) → Drafted p s l None → Judged p s l None None
+nothing_judged p s l d = record { same = λ k z. z; accepts = λ k z. absurd cc; refuses = λ _. d.none refl }

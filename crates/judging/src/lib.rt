@@ -38,7 +38,7 @@ pub fn admitted(
     drafted: Option<usize>,
 ) -> Option<usize>
     requires { Drafted (banks opcodes.now arguments.now) sheet.now list.now drafted }
-    ensures { Judged (banks opcodes.now arguments.now) sheet.now list.now result }
+    ensures { Judged (banks opcodes.now arguments.now) sheet.now list.now drafted result }
 {
     let n = drafted?;
     let answer = admission::cesca_admit(opcodes, arguments, sheet, part(list, 0, 2 * n));

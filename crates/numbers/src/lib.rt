@@ -142,7 +142,7 @@ impl From<Result<(u8, u8), EncodeError>> for Encoding {
     }
 }
 
-// The number of V. Neither it nor a byte is a type of this crate, so this is no `From`.
+// The number of V. A `From` would have to stand in `alu`, which knows nothing of C's numbers.
 pub fn overflow_number(v: Overflow) -> u8
     ensures { result ≡ overflow_number v }
 {
@@ -162,7 +162,7 @@ impl From<Computed> for ComputedNumbers {
     }
 }
 
-// The number of an effect on V: no `From`, likewise.
+// The number of an effect on V: no `From`, likewise, in `isa`.
 pub fn effect_number(e: OverflowEffect) -> u8
     ensures { result ≡ effect_number e }
 {

@@ -43,7 +43,7 @@ pub struct RunNumbers(
 #[derive(Clone, Copy)]
 pub struct TimeNumbers(pub u8, pub u32);
 
-// V from its number.
+// V from its number: no `From`, likewise, in `alu`, which knows nothing of C's numbers.
 fn overflow_of(n: u8) -> Overflow
     ensures { result ≡ overflow_of n }
 {
@@ -98,7 +98,7 @@ impl From<State> for StateNumbers {
     }
 }
 
-// The number of a stop. No From<Stop> for u8: both types are of other crates.
+// The number of a stop. A `From` would have to stand in `model`, where no function stands.
 pub fn stop_number(x: Stop) -> u8
     ensures { result ≡ stop_number x }
 {
@@ -110,7 +110,7 @@ pub fn stop_number(x: Stop) -> u8
     }
 }
 
-// 01's number of a refused run. No From, as with a stop.
+// 01's number of a refused run: no `From`, likewise.
 fn refusal_number(x: Refusal) -> u8
     ensures { result ≡ refusal_number x }
 {

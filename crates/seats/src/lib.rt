@@ -1,5 +1,5 @@
-// What a turn answers, `Result<Option<SeatTurn>, TurnRefusal>`, and the limits of a call. `specs/` says what a turn and a list of turns are,
-// and what is promised of them; nothing here runs.
+// What a turn answers, `Result<Option<SeatTurn>, TurnRefusal>`, and the limits of a call. `specs/` says
+// what a turn and a list of turns are, and what is promised of them; nothing here runs.
 #![tactic(auto)]
 
 use model::Stop;

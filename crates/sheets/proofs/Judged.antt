@@ -6,7 +6,7 @@ use Rattle.slices.proofs.Bools.{by_test}
 use Rattle.sheets.specs.declared.grounds.Ground.{Ground}
 use Rattle.sheets.specs.declared.grounds.Rule.{Rule}
 use Rattle.sheets.specs.declared.grounds.Rule.TheVariants as rule
-use Rattle.sheets.specs.internal.Grounds.{rule_number, answer_of, of_listing, length_answer}
+use Rattle.sheets.specs.Grounds.{rule_number, answer_of, of_listing, length_answer}
 
 numbered : (k : Rule) → 0 < rule_number k
 numbered rule.BankSizes = omega arith

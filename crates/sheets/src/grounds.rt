@@ -1,7 +1,7 @@
 // The rules of a word, and which of them is broken. In 01's words a ground is a rule that a listing
 // breaks.
 ghost use Rattle.std.specs.Prelude.{◌+◌, ◌*◌, ◌≡◌, cond, get_or};
-ghost use Rattle.sheets.specs.internal.Grounds.{rule_number, answer_of, of_listing};
+ghost use Rattle.sheets.specs.Grounds.{rule_number, answer_of, of_listing};
 ghost use Rattle.sheets.specs.internal.Words.{word_of};
 ghost use Rattle.sheets.specs.internal.Tests.{bad_blank_word, bad_routine_word, bad_entry_word, bad_word};
 
@@ -55,7 +55,7 @@ impl From<Rule> for Ground {
 }
 
 // number + 256 × place of a broken rule, or 0.
-#[tactic(auto, unfolding(crate::specs::internal::Grounds::answer_of))]
+#[tactic(auto, unfolding(crate::specs::Grounds::answer_of))]
 pub fn answer(judged: Result<(), Ground>) -> u32
     ensures { result ≡ answer_of judged }
 {
@@ -66,7 +66,7 @@ pub fn answer(judged: Result<(), Ground>) -> u32
 }
 
 // A rule at a place, where it is broken.
-#[tactic(auto, unfolding(crate::specs::internal::Grounds::answer_of))]
+#[tactic(auto, unfolding(crate::specs::Grounds::answer_of))]
 pub fn refuse_if(broken: bool, rule: Rule, place: u8) -> Result<(), Ground>
     ensures { answer_of result ≡ cond broken (rule_number rule + 256 * place) 0 }
 {

@@ -2,7 +2,7 @@
 ghost use Rattle.std.specs.Prelude.{◌≡◌, [], Bool};
 ghost use Rattle.rules.specs.Grounds.{length_checks, listing_checks, buffer_checks};
 ghost use Rattle.rules.specs.Sheet.{listing};
-ghost use Rattle.sheets.specs.internal.Grounds.{length_answer};
+ghost use Rattle.sheets.specs.Grounds.{length_answer};
 ghost use Rattle.slices.specs.Checks.{first_broken};
 
 use super::grounds::Rule;
@@ -10,7 +10,7 @@ use rules::{MAX_LIST_SIZE, SHEET_SIZE};
 use slices::BANK_SIZE;
 
 // The first of 1 to 3 that is broken, where the list's length is bad or not.
-#[tactic(auto, unfolding(slices::specs::Checks::first_broken, crate::specs::internal::Grounds::length_answer))]
+#[tactic(auto, unfolding(slices::specs::Checks::first_broken, crate::specs::Grounds::length_answer))]
 fn lengths(opcodes: &[u8], arguments: &[u8], sheet: &[u8], bad_list: bool) -> Result<(), Rule>
     ensures { length_answer result ≡ first_broken (length_checks (listing opcodes.now arguments.now sheet.now []) bad_list) }
 {

@@ -28,7 +28,7 @@ pub struct TurnNumbers(
     pub SeatNumbers,
 );
 
-// 02's number of a refused turn. No From<TurnRefusal> for u8: both types are of other crates.
+// 02's number of a refused turn. A `From` would have to stand in `seats`, where no function stands.
 fn refusal_number(refusal: TurnRefusal) -> u8
     ensures { result ≡ refusal_number refusal }
 {
@@ -40,7 +40,8 @@ fn refusal_number(refusal: TurnRefusal) -> u8
     }
 }
 
-// The numbers of a turn's report.
+// The numbers of a turn's report. The two arrays come by themselves, since only so is their length
+// known; a `From` of a tuple of the three would be no plainer.
 fn turn_numbers(
     answer: Result<Option<SeatTurn>, TurnRefusal>,
     states: [StateNumbers; 8],

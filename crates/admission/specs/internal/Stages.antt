@@ -5,7 +5,7 @@ use Rattle.rules.specs.Grounds.{bad_banks, bad_sheet, bad_list, bad_blank, bad_r
 use Rattle.rules.specs.Sheet.{Listing, routines}
 use Rattle.rules.specs.internal.Scans.{or_else, scan_of}
 use Rattle.sheets.specs.declared.grounds.Ground.{Ground}
-use Rattle.sheets.specs.internal.Grounds.{answer_of}
+use Rattle.sheets.specs.Grounds.{answer_of}
 use Rattle.slices.specs.Checks.{Check, check, first_broken}
 use Rattle.slices.specs.Sizes.{bank_size}
 use Rattle.addresses.specs.internal.Parts.{EntriesFit}

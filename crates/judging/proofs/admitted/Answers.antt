@@ -10,7 +10,7 @@ pub returns-then-answer-eq0 : goal.returns-then-answer-eq0
 returns-then-answer-eq0 c =
     let a = c.args in
     let f = c.requires.some c.in_ok-n.n c.in_ok-n.was in
-    judged _ a.sheet.now a.list.now c.in_ok-n.n c.cesca_admit-answer.result f c.part.ensures c.cesca_admit-answer.ensures.answers c.if-answer-eq0.true
+    judged _ a.sheet.now a.list.now c.in_ok-n.n c.cesca_admit-answer.result f c.part.ensures c.cesca_admit-answer.ensures.answers c.in_ok-n.was c.if-answer-eq0.true
 
 pub returns-else-answer-eq0 : goal.returns-else-answer-eq0
 returns-else-answer-eq0 c =

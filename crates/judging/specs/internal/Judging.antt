@@ -20,9 +20,10 @@ pub record Draft (p : Program) (s l : List ℕ) (n : ℕ) : Type 0 where
   pub sheet_is : s ≡ sheet_of words
   pub list_is : l ≡ padded max_list_size (list_of words)
 
--- no routines: nothing can be admitted, and there is no draft
+-- no routines: nothing can be admitted, and there is no draft, or one without a routine
 pub record Drafted (p : Program) (s l : List ℕ) (routines : Option ℕ) : Type 0 where
   pub none : routines ≡ None → NoneAdmitted p
+  pub empty : routines ≡ Some 0 → NoneAdmitted p
   pub some : (n : ℕ) → routines ≡ Some n → Draft p s l n
 
 -- a draft that is a drawing
@@ -33,6 +34,8 @@ pub record Accepted (p : Program) (s l : List ℕ) (n : ℕ) : Type 0 where
   pub count : n ≡ routines (listed p s list)
   pub few : n ≤ 64
 
-pub record Judged (p : Program) (s l : List ℕ) (routines : Option ℕ) : Type 0 where
+-- the routines of what was drafted, where it is a drawing
+pub record Judged (p : Program) (s l : List ℕ) (drafted routines : Option ℕ) : Type 0 where
+  pub same : (n : ℕ) → routines ≡ Some n → drafted ≡ Some n
   pub accepts : (n : ℕ) → routines ≡ Some n → Accepted p s l n
   pub refuses : routines ≡ None → NoneAdmitted p
