@@ -8,7 +8,7 @@ ghost use Rattle.checking.specs.internal.Judges.{address_by};
 use groups::{Refusal, read_field};
 
 // The most of an opcode, an argument, an entry or a need.
-const MAX_BYTE: u32 = 255;
+pub const MAX_BYTE: u32 = 255;
 
 // The most of a sheet word.
 const MAX_WORD: u32 = 65535;
