@@ -7,11 +7,13 @@ use mathlib.Core.List.{List, ◌++◌}
 use mathlib.Core.Bool.{Bool, false}
 use lib.ListN.{length, set, replicate}
 use lib.Seq.{take_at, take-take}
-use Rattle.std.specs.Prelude.{Option, None, Some}
+use borrow.Author.Tests.{eqb-true, eqb-false}
+use Rattle.std.specs.Prelude.{Option, None, Some, cond, eqb}
 use Rattle.model.specs.Step.{Program}
 use Rattle.rules.specs.Grounds.{admit_of}
 use Rattle.rules.specs.Sheet.{routines}
 use Rattle.slices.specs.Parts.{part_of, padded}
+use Rattle.slices.proofs.Bools.{by_test}
 use Rattle.drawings.specs.Drawn.{listed}
 use Rattle.drawings.specs.internal.Cells.{packed}
 use Rattle.drawings.specs.internal.Drafts.{rank, sheet_of, list_of, draft_of}
@@ -78,11 +80,18 @@ module _ (p : Program) (s l : List ℕ) (n : ℕ) (answer : ℕ) {part : List �
         few = f.few;
       }
 
-  pub judged : {d : Option ℕ} → d ≡ Some n → answer ≡ 0 → Judged p s l d (Some n)
-  judged w q = record { same = λ k z. w ∙ z; accepts = λ k z. let same : n ≡ k = cc in subst (Accepted p s l) same (accepted q); refuses = λ z. absurd cc }
+  accepting : {d : Option ℕ} → d ≡ Some n → answer ≡ 0 → Judged p s l d (Some n)
+  accepting w q = record { same = λ k z. w ∙ z; accepts = λ k z. let same : n ≡ k = cc in subst (Accepted p s l) same (accepted q); refuses = λ z. absurd cc }
 
-  pub turned_down : {d : Option ℕ} → (answer ≡ 0 → ⊥) → Judged p s l d None
+  turned_down : {d : Option ℕ} → (answer ≡ 0 → ⊥) → Judged p s l d None
   turned_down h = record { same = λ k z. absurd cc; accepts = λ k z. absurd cc; refuses = λ _. theorem.none_admitted p f.words f.settled (λ z. h (is_answer ∙ z)) }
+
+  -- the routines are handed on just where admission answers 0
+  pub judged : {d r : Option ℕ} → d ≡ Some n → r ≡ cond (eqb answer 0) (Some n) None → Judged p s l d r
+  judged w v = rw v
+      (by_test (eqb answer 0)
+      (λ t. rw t (accepting w (eqb-true answer 0 t)))
+      (λ t. rw t (turned_down (eqb-false answer 0 t))))
 
 pub nothing_judged : (p : Program) (s l : List ℕ) → Drafted p s l None → Judged p s l None None
 nothing_judged p s l d = record { same = λ k z. z; accepts = λ k z. absurd cc; refuses = λ _. d.none refl }
