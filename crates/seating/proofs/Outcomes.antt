@@ -31,7 +31,7 @@ use Rattle.scheduling.proofs.Finding.{goes_is, alike}
 use Rattle.scheduling.proofs.Numbers.{state_put}
 use Rattle.seating.specs.Reports.{numbers_after, TurnedAs}
 use Rattle.seating.specs.declared.TurnReport.{TurnReport}
-use Rattle.seating.specs.internal.SeatRuns.{sought_by, seat_sought, SeatRan, report_by}
+use Rattle.seating.specs.internal.SeatRuns.{SeatRan, report_by}
 
 -- ---- a call that keeps the rules
 
@@ -58,7 +58,7 @@ bank_bytes l b i a =
     rw (get_or-eq_default (bank_of l i) 0 g) (omega arith))
 
 -- the code's search is the definition's
-pub sought : (n slice from : ℕ) (w : Room) → Accepted n slice w → Bytes w.opcodes
+sought : (n slice from : ℕ) (w : Room) → Accepted n slice w → Bytes w.opcodes
     → first_from (goes_by w.opcodes w.roll_lengths w.states w.roll_positions) n (from % n) n ≡ next_seat (turn_call n slice from) w
 sought n slice from w a b =
     alike (goes_by w.opcodes w.roll_lengths w.states w.roll_positions) (goes_in w) n
@@ -69,19 +69,6 @@ pub below : (n slice from i : ℕ) (w : Room) → Accepted n slice w → next_se
 below n slice from i w a x =
     let f : FoundFits (goes_in w) n (Some i) = rw x at (found_fits (goes_in w) n n (from % n) (mod-lt from a.bounds.some_seats)) in
     f.below
-
-pub accepts_seat : (from : ℕ) {n slice : ℕ} {w : Room} → Accepted n slice w → (x : Option ℕ) → x ≡ next_seat (turn_call n slice from) w
-    → Ok x ≡ seat_sought (turn_call n slice from) w
-accepts_seat from a x e = rw (a.no_fault, e)
-
--- what the code sought tells of the call and of the seat
-sought_refused : (f : Result ⊤ TurnRefusal) (x : Option ℕ) (r : TurnRefusal) → sought_by f x ≡ Err r → f ≡ Err r
-sought_refused (Err q) x r e = cc
-sought_refused (Ok u) x r e = cc
-
-sought_kept : (f : Result ⊤ TurnRefusal) (x y : Option ℕ) → sought_by f x ≡ Ok y → (f ≡ Ok tt) × (x ≡ y)
-sought_kept (Err q) x y e = absurd (let z : ◌≡◌ {A = ℕ} 0 1 = cc in omega arith)
-sought_kept (Ok u) x y e = (refl, cc)
 
 -- a call that is kept, and what was found of it
 pub record Seeks (n slice from : ℕ) (w : Room) (x : Option ℕ) : Type 0 where
@@ -99,10 +86,10 @@ module _ {n slice from i : ℕ} {w : Room} (s : Seeks n slice from w (Some i)) w
   pub has_places : SeatPlaces w i
   has_places = places n w s.accepts.fits i is_seat
 
-pub seeks : (n slice from : ℕ) (w : Room) (x : Option ℕ) → Ok x ≡ seat_sought (turn_call n slice from) w → Seeks n slice from w x
-seeks n slice from w x e =
-    let t = sought_kept (turn_fault n slice w) (next_seat (turn_call n slice from) w) x (sym e) in
-    record { accepts = accepted n slice w t.0; found = t.1 }
+-- the code's search x, as its contract tells it, is that of a call that is kept
+pub seeks : {n slice : ℕ} (from : ℕ) {w : Room} → Accepted n slice w → Bytes w.opcodes → {x : Option ℕ}
+    → x ≡ first_from (goes_by w.opcodes w.roll_lengths w.states w.roll_positions) n (from % n) n → Seeks n slice from w x
+seeks {n} {slice} from {w} a b e = record { accepts = a; found = sym (e ∙ sought n slice from w a b) }
 
 -- ---- the three outcomes
 
@@ -129,11 +116,11 @@ module _ (n slice from : ℕ) (ops args keys ram stack rolls : List ℕ) (m : Se
       }
 
   pub refused_as : (q : TurnRefusal) (r : TurnReport) → r ≡ record { answer = Err q; seats = x }
-      → seat_sought call here ≡ Err q → TurnedAs call here x r ram stack rolls
+      → turn_fault n slice here ≡ Err q → TurnedAs call here x r ram stack rolls
   unfolding turn_of
   refused_as q r e f =
       let o : turn_of call here ≡ turn_outcome (Err q) here =
-      ap (λ (m : Result ⊤ TurnRefusal). turn_by m call here) (sought_refused (turn_fault n slice here) (next_seat call here) q f) in
+      ap (λ (m : Result ⊤ TurnRefusal). turn_by m call here) f in
       turned_as (turn_outcome (Err q) here) r ram stack rolls o (rw e) (rw e) (rw e) (rw e) refl refl refl
 
   pub none_as : (r : TurnReport) → r ≡ record { answer = Ok None; seats = x } → Seeks n slice from here None → TurnedAs call here x r ram stack rolls

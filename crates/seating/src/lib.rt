@@ -8,7 +8,7 @@ ghost use Rattle.seats.specs.Turn.{turn_call, max_slice};
 ghost use Rattle.seats.specs.internal.Places.{SeatPlaces};
 ghost use Rattle.scheduling.specs.Numbers.{room_of};
 ghost use Rattle.seating.specs.Reports.{TurnedAs};
-ghost use Rattle.seating.specs.internal.SeatRuns.{seat_sought, SeatRan, report_by};
+ghost use Rattle.seating.specs.internal.SeatRuns.{SeatRan, report_by};
 
 use machine::{Reached, run_steps};
 use scheduling::lengths::begin_of;
@@ -24,28 +24,6 @@ use slices::BANK_SIZE;
 pub struct TurnReport {
     pub answer: Result<Option<SeatTurn>, TurnRefusal>,
     pub seats: SeatNumbers,
-}
-
-// The seat that runs, if one can, where the call keeps the rules.
-fn seat_to_run(
-    n: usize,
-    slice: u32,
-    from: usize,
-    opcodes: &[u8],
-    arguments: &[u8],
-    keys: &[u8],
-    ram: &[u8],
-    stack: &[u8],
-    rolls: &[u16],
-    lengths: SeatLengths,
-    seats: SeatNumbers,
-) -> Result<Option<usize>, TurnRefusal>
-    ensures { result ≡ seat_sought (turn_call n slice from) (room_of opcodes.now arguments.now keys.now ram.now stack.now rolls.now lengths seats) }
-{
-    check_call(
-        n, slice, opcodes, arguments, keys, ram, stack, rolls, lengths, seats,
-    )?;
-    Ok(next_seat(opcodes, lengths, n, from % n, seats))
 }
 
 // Seat i's slice: its own parts of the buffers are lent to a run, the roll continued where it ends.
@@ -128,17 +106,17 @@ pub fn turn(
 ) -> TurnReport
     ensures { TurnedAs (turn_call n slice from) (room_of opcodes.now arguments.now keys.now ram.old stack.old rolls.old lengths seats) seats result ram.new stack.new rolls.new }
 {
-    match seat_to_run(
-        n, slice, from, opcodes, arguments, keys, ram, stack, rolls, lengths, seats,
+    if let Err(refusal) = check_call(
+        n, slice, opcodes, arguments, keys, ram, stack, rolls, lengths, seats,
     ) {
-        Err(refusal) => idle(Err(refusal), seats),
-        Ok(None) => idle(Ok(None), seats),
-        Ok(Some(i)) => {
-            let next = seat_after(n, i);
-            let reached = run_seat(
-                opcodes, arguments, keys, ram, stack, rolls, lengths, slice, i, seats,
-            );
-            seat_report(i, next, reached, seats)
-        }
+        return idle(Err(refusal), seats);
     }
+    let Some(i) = next_seat(opcodes, lengths, n, from % n, seats) else {
+        return idle(Ok(None), seats);
+    };
+    let next = seat_after(n, i);
+    let reached = run_seat(
+        opcodes, arguments, keys, ram, stack, rolls, lengths, slice, i, seats,
+    );
+    seat_report(i, next, reached, seats)
 }

@@ -1,24 +1,15 @@
 -- What a seat's run leaves in the buffers that all seats share, and the report of the turn.
 -- Assumes nothing.
-use Rattle.std.specs.Prelude.{ℕ, ◌≡◌, List, Option, Some, Result, Ok, Err, ⊤}
+use Rattle.std.specs.Prelude.{ℕ, ◌≡◌, List, Some, Ok}
 use Rattle.machine.specs.declared.Reached.{Reached}
 use Rattle.model.specs.Run.{Ended}
 use Rattle.model.specs.declared.Ran.{Ran}
 use Rattle.model.specs.declared.State.{State}
 use Rattle.seats.specs.Room.{Room, seat_of, with_seat, alone_of, seat_at}
-use Rattle.seats.specs.Turn.{TurnCall, seat_turn, turn_fault, next_seat}
-use Rattle.seats.specs.declared.TurnRefusal.{TurnRefusal}
+use Rattle.seats.specs.Turn.{seat_turn}
 use Rattle.scheduling.specs.declared.SeatNumbers.{SeatNumbers}
 use Rattle.scheduling.specs.internal.Places.{with_numbers}
 use Rattle.seating.specs.declared.TurnReport.{TurnReport}
-
--- the seat that runs, if one can, where the call keeps the rules
-abbrev pub sought_by : Result ⊤ TurnRefusal → Option ℕ → Result (Option ℕ) TurnRefusal
-sought_by (Err r) x = Err r
-sought_by (Ok u) x = Ok x
-
-abbrev pub seat_sought : TurnCall → Room → Result (Option ℕ) TurnRefusal
-seat_sought c w = sought_by (turn_fault c.seats c.slice w) (next_seat c w)
 
 -- the run of seat i alone for a slice, and the room that it leaves
 abbrev pub end_at : Room → ℕ → (slice : ℕ) → Ended
