@@ -83,7 +83,7 @@ module _ (p : Program) (s l : List ℕ) (n : ℕ) (answer : ℕ) {part : List �
   accepting : {d : Option ℕ} → d ≡ Some n → answer ≡ 0 → Judged p s l d (Some n)
   accepting w q = record { same = λ k z. w ∙ z; accepts = λ k z. let same : n ≡ k = cc in subst (Accepted p s l) same (accepted q); refuses = λ z. absurd cc }
 
-  turned_down : {d : Option ℕ} → (answer ≡ 0 → ⊥) → Judged p s l d None
+  pub turned_down : {d : Option ℕ} → (answer ≡ 0 → ⊥) → Judged p s l d None
   turned_down h = record { same = λ k z. absurd cc; accepts = λ k z. absurd cc; refuses = λ _. theorem.none_admitted p f.words f.settled (λ z. h (is_answer ∙ z)) }
 
   -- the routines are handed on just where admission answers 0

@@ -58,7 +58,7 @@ bank_bytes l b i a =
     rw (get_or-eq_default (bank_of l i) 0 g) (omega arith))
 
 -- the code's search is the definition's
-sought : (n slice from : ℕ) (w : Room) → Accepted n slice w → Bytes w.opcodes
+pub sought : (n slice from : ℕ) (w : Room) → Accepted n slice w → Bytes w.opcodes
     → first_from (goes_by w.opcodes w.roll_lengths w.states w.roll_positions) n (from % n) n ≡ next_seat (turn_call n slice from) w
 sought n slice from w a b =
     alike (goes_by w.opcodes w.roll_lengths w.states w.roll_positions) (goes_in w) n
